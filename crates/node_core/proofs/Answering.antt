@@ -20,6 +20,10 @@ is_answer (Err refusal.Full) f = tt
 is_answer (Err refusal.TooLow) f = tt
 is_answer (Err (refusal.TableFull live would_be)) f = tt
 is_answer (Err (refusal.Write why)) f = tt
+is_answer (Err refusal.NoLink) f = tt
+is_answer (Err refusal.Standing) f = tt
+is_answer (Err refusal.TooLong) f = tt
+is_answer (Err refusal.NoRoom) f = tt
 
 pub answer_is : (r : Result ActDone ActRefusal) → IsAnswer r → wants_memory r ≡ false
 answer_is (Ok _) a = refl
@@ -33,3 +37,7 @@ answer_is (Err refusal.Full) a = refl
 answer_is (Err refusal.TooLow) a = refl
 answer_is (Err (refusal.TableFull live would_be)) a = refl
 answer_is (Err (refusal.Write why)) a = refl
+answer_is (Err refusal.NoLink) a = refl
+answer_is (Err refusal.Standing) a = refl
+answer_is (Err refusal.TooLong) a = refl
+answer_is (Err refusal.NoRoom) a = refl

@@ -66,7 +66,7 @@ within of_links of_ends users_few k sound pairs =
     let waiting : links.waiting_octets table.waiting ≡ 0 = ap links.waiting_octets (parts.links.waiting ∙ sound.collected) in
     let l : links.kept table ≤ 98175 * length table.links + links.waiting_octets table.waiting = of_links table n.station.links parts.links in
     let e : ends.kept held ≤ 90347 * length held.ends.entries + 236 * ends.windows held.ends.entries = of_ends held n.station.set.set n.station.set.untold parts.set.ends in
-    let both = users_few r.config r.inputs r.call r.asked in
+    let both = users_few r.hosts r.config r.inputs r.call r.asked in
     let few : length n.station.sessions ≤ length n.station.links.links + length (held_ids n.station.set.set.ends) =
     subst (λ (m : NodeState). length m.station.sessions ≤ length m.station.links.links + length (held_ids m.station.set.set.ends)) r.is both.0 in
     let few_links : length n.station.links.links ≤ 64 = subst (λ (m : NodeState). length m.station.links.links ≤ 64) r.is both.1 in
@@ -79,5 +79,6 @@ within of_links of_ends users_few k sound pairs =
       links = omega (arith, few_links, no_more_links table.own table.links n.station.links.links parts.links.links);
       ends = held.few;
       pairs = pairs;
+      qualities = k.station.qualities.few;
       users = users;
     }

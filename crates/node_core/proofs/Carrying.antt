@@ -36,7 +36,6 @@ use Rattle.node_turns.specs.Links as links
 use Rattle.node_core.specs.Receiving as receiving
 use Rattle.node_core.specs.Broadcasts as rounds
 use Rattle.node_core.specs.Runs.{MadeFrom, circuits_told}
-use Rattle.node_turns.specs.Serving as s
 use Rattle.node_core.specs.Standing.{IsTold}
 use Rattle.node_turns.specs.States.{Entry, Overflow, State, at_links, put, with_items}
 use Rattle.node_core.specs.Acts.{UserAct}
@@ -172,7 +171,7 @@ module _ (here : Place) (law : CarriesWhatWasOffered) (weaker : CarriesByWeaker)
         by false = (c, entries_name own source path es c)
 
     heard : (source : Callsign) (b : Result Broadcast NodesRefusal) → IsCall source → Trail here sent n (receiving.hear source b n)
-    heard source (Ok b) c = taken_in (logs.broadcast n.settings.call source b.alias n.settings.path_quality b.entries) (broadcast_names n.settings.call source b.alias n.settings.path_quality b.entries c)
+    heard source (Ok b) c = taken_in (logs.broadcast n.settings.call source b.alias (receiving.quality_to source n) b.entries) (broadcast_names n.settings.call source b.alias (receiving.quality_to source n) b.entries c)
     heard source (Err why) c = still here n sent x
 
     arrived : (f : Frame) → LinksHold here sent (links.arrive f now n.links) → Trail here sent n (at_links (links.arrive f now) n)
@@ -305,9 +304,14 @@ module _ (law : CarriesWhatWasOffered) (weaker : CarriesByWeaker) (numbered : Nu
   locks (acts.LinkFail peer) l = tt
   locks (acts.Lock dest alias neighbour quality) l = l
   locks (acts.Connect dest) l = tt
+  locks (acts.ConnectFor user dest) l = tt
   locks (acts.Write id message) l = tt
   locks (acts.Take id) l = tt
   locks (acts.Close id) l = tt
+  locks (acts.TakeText peer) l = tt
+  locks (acts.SendText to text) l = tt
+  locks (acts.OpenLink to path) l = tt
+  locks (acts.CloseLink peer) l = tt
 
   pub acts_carry : ActsCarry
   acts_carry here sent now act n i l e x =

@@ -1,6 +1,8 @@
 -- A round, and what the user of a node does, keep it fine.
 use Rattle.std.proofs.Common.{◌≡◌, ℕ, refl, sym, ap, subst, arith, List, [], ◌∷◌, ◌++◌, append-nil}
 use Rattle.std.specs.Prelude.{Bool, true, false, ◌||◌, ◌&&◌, is_some, nat_lt, if◌then◌else◌, Option, Some, None, Result, Ok, Err}
+use Rattle.arrayvec.specs.ArrayVec.{ArrayVec}
+use Rattle.ax_address.specs.declared.address.Address.{Address}
 use Rattle.ax_address.specs.Callsign.{Callsign, same_call}
 use Rattle.circuit_l4.specs.Opening.{facts_of}
 use Rattle.circuit_l4.specs.Table.{step}
@@ -16,6 +18,8 @@ use Rattle.circuit_set.specs.declared.refusal.SetRefusal.{SetRefusal}
 use Rattle.link_table.specs.Reaching.{IsCall}
 use Rattle.link_table.specs.declared.written.Written.{Written}
 use Rattle.route_table.specs.Table.{to_broadcast}
+use Rattle.link_table.specs.declared.open_refusal.OpenRefusal.{OpenRefusal}
+use Rattle.link_table.specs.declared.text_refusal.TextRefusal.{TextRefusal}
 use Rattle.route_table.specs.Log as logs
 use Rattle.route_table.specs.Log.{Item}
 use Rattle.node_core.specs.declared.acts.ActRefusal.TheVariants as refusal
@@ -58,9 +62,16 @@ locked dest item quality n f =
     answered _ _ (same_call dest n.settings.call) f
     (answered _ _ (nat_lt quality n.settings.rules.minq) f (answered (acts.answer_done (with_items (item ∷ []) n)) _ (receiving.has_room (item ∷ []) n) f f))
 
-connected : (now : ℕ) (dest : Callsign) (r : Result ℕ ConnectRefusal) (n : State) → IsCall dest → Fine n → Fine (acts.connect_by r (sets.Connect dest now) n).node
-connected now dest (Ok id) n call f = acted (sets.Connect dest now) n (connects_keeps n.set.set dest now call) (connects_wrote n.set.set dest now) (connected_ok n.set.set dest now).made (connects_leaves n.set.set dest now) f
-connected now dest (Err why) n call f = f
+connected : (now : ℕ) (user dest : Callsign) (r : Result ℕ ConnectRefusal) (n : State) → IsCall dest → Fine n → Fine (acts.connect_by r (sets.ConnectFor user dest now) n).node
+connected now user dest (Ok id) n call f =
+    acted (sets.ConnectFor user dest now) n (connects_keeps n.set.set user dest now call) (connects_wrote n.set.set user dest now) (connected_ok n.set.set user dest now).made (connects_leaves n.set.set user dest now) f
+connected now user dest (Err why) n call f = f
+
+connected_own : (now : ℕ) (dest : Callsign) (r : Result ℕ ConnectRefusal) (n : State) → IsCall dest → Fine n → Fine (acts.connect_by r (sets.Connect dest now) n).node
+connected_own now dest (Ok id) n call f =
+    let user : Callsign = n.set.set.user in
+    acted (sets.Connect dest now) n (connects_keeps n.set.set user dest now call) (connects_wrote n.set.set user dest now) (connected_ok n.set.set user dest now).made (connects_leaves n.set.set user dest now) f
+connected_own now dest (Err why) n call f = f
 
 wrote : (now id : ℕ) (message : List ℕ) (r : Result (Unit {0}) SetRefusal) (n : State) → Every (NotIts id) n.sessions → Fine n → Fine (acts.write_by r (sets.Calls id (sets.Writes message) now) n).node
 wrote now id message (Ok _) n none f = writes_fine now id message n none f
@@ -143,12 +154,25 @@ takes_act : (now id : ℕ) (n : State) → Fine n → (b : Bool) → acts.is_kep
 takes_act now id n f true e = f
 takes_act now id n f false e = taken_by now id n (is_some (facts id n)) (is_served id n.sessions) refl refl e f
 
+texts_sent : (r : Result (Unit {0}) TextRefusal) (now : ℕ) (to : Callsign) (text : List ℕ) (n : State) → Fine n → Fine (acts.send_by r now to text n).node
+texts_sent (Ok _) now to text n f = f
+texts_sent (Err why) now to text n f = f
+
+links_opened : (r : Result (Unit {0}) OpenRefusal) (now : ℕ) (to : Callsign) (path : ArrayVec Address) (n : State) → Fine n → Fine (acts.open_by r now to path n).node
+links_opened (Ok _) now to path n f = f
+links_opened (Err why) now to path n f = f
+
 pub act_fine : (now : ℕ) (act : UserAct) (n : State) → IsUserAct act → IsTold n → Fine n → Fine (acts.do_act now act n).node
 act_fine now acts.Round n call t f = round_fine n f
 act_fine now (acts.LinkFail peer) n call t f = f
 act_fine now (acts.Lock dest alias neighbour quality) n call t f = locked dest (logs.Lock dest alias neighbour quality) quality n f
-act_fine now (acts.Connect dest) n call t f = connected now dest (connect_answer (next_hop n) dest n.set.set) n call f
+act_fine now (acts.Connect dest) n call t f = connected_own now dest (connect_answer (next_hop n) dest n.set.set) n call f
+act_fine now (acts.ConnectFor user dest) n call t f = connected now user dest (connect_answer (next_hop n) dest n.set.set) n call.1 f
 act_fine now (acts.Write id message) n call t f =
     writes now id message n f (acts.is_kept id n) refl
 act_fine now (acts.Take id) n call t f = takes_act now id n f (acts.is_kept id n) refl
 act_fine now (acts.Close id) n call t f = closes now id n t f (acts.is_kept id n) refl
+act_fine now (acts.TakeText peer) n call t f = answered (acts.take_text now peer n) _ n.settings.hosts f f
+act_fine now (acts.SendText to text) n call t f = answered (acts.send_text now to text n) _ n.settings.hosts (texts_sent (circuits.text_answer to text n.links) now to text n f) f
+act_fine now (acts.OpenLink to path) n call t f = answered (acts.open_link now to path n) _ n.settings.hosts (links_opened (circuits.open_answer to path n.links) now to path n f) f
+act_fine now (acts.CloseLink peer) n call t f = answered (acts.close_link now peer n) _ n.settings.hosts f f

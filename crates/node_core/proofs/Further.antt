@@ -27,9 +27,10 @@ module _ (law : CarriesWhatWasOffered) (weaker : CarriesByWeaker) (spelled : Fra
       names = x.names;
       call = x.call;
     };
+    qualities = λ here sent neighbour quality n x. record { links = x.links; reaches = x.reaches; own = x.own; untold = x.untold; names = x.names; call = x.call };
     told = λ here sent n x. record { links = x.links; reaches = x.reaches; own = x.own; untold = x.untold; names = x.names; call = x.call };
     broadcasts = λ size borne own b c. broadcast_carried size (is_aloft borne) own b c;
-    starts = λ here sent c own call m w. record {
+    starts = λ here sent hosts c own call m w. record {
       links = record {
         modulus = subst (λ (k : ℕ). (k ≡ 8) ⊎ (k ≡ 128)) (sym w) m;
         size = grind (arith, nat_tests, w);

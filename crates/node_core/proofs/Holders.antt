@@ -14,7 +14,7 @@ use Rattle.circuit_l4.specs.declared.transport.Transport.{Transport}
 use Rattle.circuit_l4.specs.declared.transport.Transport.TheVariants.{Request, Accept, Refuse, Disconnect, Disconnected, Info, InfoAck}
 use Rattle.circuit_l4.specs.declared.transport.TransportRefusal.{TransportRefusal}
 use Rattle.circuit_set.specs.CircuitSets.{facts_at}
-use Rattle.circuit_set.specs.Sets.{heeds, Call, Calls, Comes, Connect, Holder, SetDone, SetState, CircuitTold, Closes, Takes, Ticks, Writes}
+use Rattle.circuit_set.specs.Sets.{heeds, Call, Calls, Comes, ConnectFor, Holder, SetDone, SetState, CircuitTold, Closes, Takes, Ticks, Writes}
 use Rattle.circuit_set.specs.Sets as s
 use Rattle.circuit_set.proofs.Origins.{origin_read}
 use Rattle.l3_datagram.specs.declared.datagram.DatagramHead.{DatagramHead}
@@ -140,10 +140,10 @@ module _ (P : SetDone → Type 0) (C : Callsign → Type 0) (set : SetState) (st
   pub comes : (d : List ℕ) (now : ℕ) → ((head : DatagramHead) → head_at d ≡ Ok head → C head.origin) → P (s.set_step set (Comes d now))
   comes d now c = handed_up d (head_at d) now c
 
-  pub connects : (dest : Callsign) (now : ℕ) → C dest → P (s.set_step set (Connect dest now))
-  connects dest now c =
-      either (s.does_nothing set) (s.requests set dest now) (same_call dest set.own || s.is_full set) (stays [])
-      (makes dest None None (requesting (s.new_pair set) set.user set.own set.config (min now COUNT_MAX)) c refl refl)
+  pub connects : (user dest : Callsign) (now : ℕ) → C dest → P (s.set_step set (ConnectFor user dest now))
+  connects user dest now c =
+      either (s.does_nothing set) (s.requests_for set user dest now) (same_call dest set.own || s.is_full set) (stays [])
+      (makes dest None None (requesting (s.new_pair set) user set.own set.config (min now COUNT_MAX)) c refl refl)
 
   called_by : (h : Holder) (call : Call) (now : ℕ) → In h set.ends → L h.end (end.step h.end (s.input_of call) now).end → P (s.after_call set (Some h) call now)
   called_by h call now i l = by h.gone refl
@@ -250,8 +250,8 @@ kept_made set at asked request g call shut none =
 pub comes_keeps : (set : SetState) (d : List ℕ) (now : ℕ) → Keeps Any set (s.set_step set (Comes d now)).set
 comes_keeps set d now = comes (λ d. Keeps Any set d.set) IsCall set (λ told. kept set) LeavesOne (grown.itself AreMessages one_more) (grown.arrives AreMessages one_more) (kept_at set) (kept_made set) d now (origin_read d)
 
-pub connects_keeps : (set : SetState) (dest : Callsign) (now : ℕ) → IsCall dest → Keeps Any set (s.set_step set (Connect dest now)).set
-connects_keeps set dest now c = connects (λ d. Keeps Any set d.set) IsCall set (λ told. kept set) LeavesOne (grown.itself AreMessages one_more) (grown.arrives AreMessages one_more) (kept_at set) (kept_made set) dest now c
+pub connects_keeps : (set : SetState) (user dest : Callsign) (now : ℕ) → IsCall dest → Keeps Any set (s.set_step set (ConnectFor user dest now)).set
+connects_keeps set user dest now c = connects (λ d. Keeps Any set d.set) IsCall set (λ told. kept set) LeavesOne (grown.itself AreMessages one_more) (grown.arrives AreMessages one_more) (kept_at set) (kept_made set) user dest now c
 
 calls_keep : (set : SetState) (id : ℕ) (call : Call) (now : ℕ) → ((h : Holder) → LeavesOne h.end (end.step h.end (s.input_of call) now).end) → Keeps Any set (s.set_step set (Calls id call now)).set
 calls_keep set id call now l = calls (λ d. Keeps Any set d.set) IsCall set (λ told. kept set) LeavesOne (grown.itself AreMessages one_more) (grown.arrives AreMessages one_more) (kept_at set) (kept_made set) id call now l

@@ -21,7 +21,7 @@ use Rattle.route_table.specs.Log.{Item, broadcast}
 use Rattle.route_table.specs.Table.{usable}
 use Rattle.node_core.specs.declared.entry.NodeEntry.{NodeEntry}
 use Rattle.node_core.specs.declared.station.Station.{Station}
-use Rattle.node_core.specs.Receiving.{has_room, live_with, take_in}
+use Rattle.node_core.specs.Receiving.{has_room, live_with, quality_to, take_in}
 use Rattle.node_turns.specs.Sessions.{Session, bare}
 use Rattle.node_core.specs.Standing.{Holds, IsTold, entry_of}
 use Rattle.node_core.specs.Broadcasts.{put_all}
@@ -45,9 +45,9 @@ links_go step s r old new e f goes n h = record {
     call = rw e h.parts.call;
     set = record { ends = h.parts.set.ends; own = rw e h.parts.set.own; ttl = rw e h.parts.set.ttl; lost = h.parts.set.lost; unspent = h.parts.set.unspent };
   };
-  names = record { alias = h.names.alias; path_quality = h.names.path_quality; interval = h.names.interval; fits = h.names.fits };
+  names = record { alias = h.names.alias; path_quality = h.names.path_quality; qualities = h.names.qualities; interval = h.names.interval; fits = h.names.fits };
   queues = record { own = h.queues.own; entries = h.queues.entries };
-  users = record { prompt = h.users.prompt; sessions = h.users.sessions };
+  users = record { prompt = h.users.prompt; hosts = h.users.hosts; sessions = h.users.sessions };
   next_round = h.next_round;
 }
 
@@ -67,9 +67,9 @@ table_goes items s r old new e f goes same n h = record {
     call = rw e h.parts.call;
     set = record { ends = h.parts.set.ends; own = rw e h.parts.set.own; ttl = rw e h.parts.set.ttl; lost = h.parts.set.lost; unspent = h.parts.set.unspent };
   };
-  names = record { alias = h.names.alias; path_quality = h.names.path_quality; interval = h.names.interval; fits = h.names.fits };
+  names = record { alias = h.names.alias; path_quality = h.names.path_quality; qualities = h.names.qualities; interval = h.names.interval; fits = h.names.fits };
   queues = record { own = h.queues.own; entries = h.queues.entries };
-  users = record { prompt = h.users.prompt; sessions = h.users.sessions };
+  users = record { prompt = h.users.prompt; hosts = h.users.hosts; sessions = h.users.sessions };
   next_round = h.next_round;
 }
 
@@ -84,9 +84,9 @@ table_stays s r old new e f g n h = record {
     call = rw e h.parts.call;
     set = record { ends = h.parts.set.ends; own = rw e h.parts.set.own; ttl = rw e h.parts.set.ttl; lost = h.parts.set.lost; unspent = h.parts.set.unspent };
   };
-  names = record { alias = h.names.alias; path_quality = h.names.path_quality; interval = h.names.interval; fits = h.names.fits };
+  names = record { alias = h.names.alias; path_quality = h.names.path_quality; qualities = h.names.qualities; interval = h.names.interval; fits = h.names.fits };
   queues = record { own = h.queues.own; entries = h.queues.entries };
-  users = record { prompt = h.users.prompt; sessions = h.users.sessions };
+  users = record { prompt = h.users.prompt; hosts = h.users.hosts; sessions = h.users.sessions };
   next_round = h.next_round;
 }
 
@@ -105,9 +105,9 @@ set_goes to s new goes n h told =
         call = rw e h.parts.call;
         set = goes.stands n.set.set (subst (SetStands s.set) told h.parts.set);
       };
-      names = record { alias = h.names.alias; path_quality = h.names.path_quality; interval = h.names.interval; fits = h.names.fits };
+      names = record { alias = h.names.alias; path_quality = h.names.path_quality; qualities = h.names.qualities; interval = h.names.interval; fits = h.names.fits };
       queues = record { own = h.queues.own; entries = h.queues.entries };
-      users = record { prompt = h.users.prompt; sessions = h.users.sessions };
+      users = record { prompt = h.users.prompt; hosts = h.users.hosts; sessions = h.users.sessions };
       next_round = h.next_round;
     }
 
@@ -124,9 +124,9 @@ set_unchanged s new same n h =
         call = rw e h.parts.call;
         set = same.stands n.set h.parts.set;
       };
-      names = record { alias = h.names.alias; path_quality = h.names.path_quality; interval = h.names.interval; fits = h.names.fits };
+      names = record { alias = h.names.alias; path_quality = h.names.path_quality; qualities = h.names.qualities; interval = h.names.interval; fits = h.names.fits };
       queues = record { own = h.queues.own; entries = h.queues.entries };
-      users = record { prompt = h.users.prompt; sessions = h.users.sessions };
+      users = record { prompt = h.users.prompt; hosts = h.users.hosts; sessions = h.users.sessions };
       next_round = h.next_round;
     }
 
@@ -139,9 +139,9 @@ entered s s2 e f same n h =
     ap (map entry_of) f ∙ (map-append entry_of s.entries.items (e ∷ []) ∙ ap (λ xs. xs ++ entry_of e ∷ []) h.queues.entries) in
     subst (λ (x : Station). Holds x (enter (entry_of e ∷ []) n)) (sym same) (record {
       parts = record { links = h.parts.links; log = h.parts.log; rules = h.parts.rules; own = h.parts.own; call = h.parts.call; set = h.parts.set };
-      names = record { alias = h.names.alias; path_quality = h.names.path_quality; interval = h.names.interval; fits = h.names.fits };
+      names = record { alias = h.names.alias; path_quality = h.names.path_quality; qualities = h.names.qualities; interval = h.names.interval; fits = h.names.fits };
       queues = record { own = h.queues.own; entries = entries };
-      users = record { prompt = h.users.prompt; sessions = h.users.sessions };
+      users = record { prompt = h.users.prompt; hosts = h.users.hosts; sessions = h.users.sessions };
       next_round = h.next_round;
     })
 
@@ -152,9 +152,9 @@ pub with_sessions : (s s2 : Station) (ss : List Session) → s2.sessions.items �
 with_sessions s s2 ss f same n h =
     subst (λ (x : Station). Holds x (record n { sessions = ss })) (sym same) (record {
       parts = record { links = h.parts.links; log = h.parts.log; rules = h.parts.rules; own = h.parts.own; call = h.parts.call; set = h.parts.set };
-      names = record { alias = h.names.alias; path_quality = h.names.path_quality; interval = h.names.interval; fits = h.names.fits };
+      names = record { alias = h.names.alias; path_quality = h.names.path_quality; qualities = h.names.qualities; interval = h.names.interval; fits = h.names.fits };
       queues = record { own = h.queues.own; entries = h.queues.entries };
-      users = record { prompt = h.users.prompt; sessions = f };
+      users = record { prompt = h.users.prompt; hosts = h.users.hosts; sessions = f };
       next_round = h.next_round;
     })
 
@@ -188,11 +188,11 @@ full_in items n live would_be s full h =
     rw full.room (subst (λ k. Holds s (enter (Overflow (length (usable n.settings.rules n.log)) k ∷ []) n)) full.would_be_is (subst (λ k. Holds s (enter (Overflow k would_be ∷ []) n)) full.live_is h))
 
 -- what a neighbour has broadcast, by the node's own call and path quality
-pub same_items : (s : Station) (r : Routing Kept) (t : TableRoutes) → r ≡ s.set.router → t ≡ r.table → (n : State) → Holds s n → (source : Callsign) (alias : Alias) (es : List Reported)
-    → broadcast t.own source alias s.path_quality es ≡ broadcast n.settings.call source alias n.settings.path_quality es
-same_items s r t e f n h source alias es =
+pub same_items : (s : Station) (r : Routing Kept) (t : TableRoutes) → r ≡ s.set.router → t ≡ r.table → (n : State) → Holds s n → (source : Callsign) (alias : Alias) (quality : ℕ) (es : List Reported)
+    → quality ≡ quality_to source n → broadcast t.own source alias quality es ≡ broadcast n.settings.call source alias (quality_to source n) es
+same_items s r t e f n h source alias quality es same =
     let own : t.own ≡ n.settings.call = rw (f, e) h.parts.own in
-    rw (own, h.names.path_quality) refl
+    rw (own, same) refl
 
 -- ---- frames
 
@@ -200,9 +200,9 @@ pub with_own : (s s2 : Station) (own : List Written) → s2.own.items ≡ own �
 with_own s s2 own f same n h =
     subst (λ (x : Station). Holds x (record n { own = own })) (sym same) (record {
       parts = record { links = h.parts.links; log = h.parts.log; rules = h.parts.rules; own = h.parts.own; call = h.parts.call; set = h.parts.set };
-      names = record { alias = h.names.alias; path_quality = h.names.path_quality; interval = h.names.interval; fits = h.names.fits };
+      names = record { alias = h.names.alias; path_quality = h.names.path_quality; qualities = h.names.qualities; interval = h.names.interval; fits = h.names.fits };
       queues = record { own = f; entries = h.queues.entries };
-      users = record { prompt = h.users.prompt; sessions = h.users.sessions };
+      users = record { prompt = h.users.prompt; hosts = h.users.hosts; sessions = h.users.sessions };
       next_round = h.next_round;
     })
 

@@ -27,7 +27,7 @@ use Rattle.node_turns.specs.declared.user.User.{User}
 use Rattle.node_turns.specs.declared.user.User.TheVariants.{AtLink}
 use Rattle.node_core.specs.Broadcasts.{is_broadcast, round_frames}
 use Rattle.node_turns.specs.Links as links
-use Rattle.node_core.specs.Configs.{new_station}
+use Rattle.node_core.specs.Configs.{start_of}
 use Rattle.node_turns.specs.Pumping as p
 use Rattle.node_core.specs.Receiving as receiving
 use Rattle.node_core.specs.Broadcasts as rounds
@@ -36,7 +36,7 @@ use Rattle.node_turns.specs.Sessions as s
 use Rattle.node_turns.specs.Sessions.{Session}
 use Rattle.node_turns.specs.States.{State, at_links, fetch_own, next_hop, put, with_items}
 use Rattle.node_turns.specs.Users.{at_session, change_if}
-use Rattle.node_core.proofs.Lodging.{Housed, breaks, closes, dropped, greeted, moved, noticed_all, pumped, sends, stepped, takes, ticks, fewer}
+use Rattle.node_core.proofs.Lodging.{Housed, breaks, closes, dropped, greeted, moved, noticed_all, opens, pumped, sends, stepped, takes, ticks, fewer}
 use Rattle.node_core.proofs.Served.{Serves}
 use Rattle.node_turns.proofs.Telling.{told_kept}
 use Rattle.node_core.proofs.Walking.{Walks}
@@ -158,6 +158,7 @@ module _ (told : EndsAreTold) (texts : TextsAreOfLinks) where
       ticks = λ now n x. (moved n.links _ n.sessions (ticks told now n.links) x.0, x.1);
       items = λ item n q x. x;
       fails = λ peer n x. (moved n.links _ n.sessions (breaks told peer n.links) x.0, x.1);
+      opens = λ peer path now n call way x. (moved n.links _ n.sessions (opens told peer path now n.links) x.0, x.1);
     };
   }
 
@@ -175,7 +176,7 @@ module _ (told : EndsAreTold) (texts : TextsAreOfLinks) where
   taken_in items n c = either (with_items items n) _ (receiving.has_room items n) c c
 
   heard : (source : Callsign) (b : Result Broadcast NodesRefusal) (n : State) → Goes n (receiving.hear source b n)
-  heard source (Ok b) n c = taken_in (logs.broadcast n.settings.call source b.alias n.settings.path_quality b.entries) n c
+  heard source (Ok b) n c = taken_in (logs.broadcast n.settings.call source b.alias (receiving.quality_to source n) b.entries) n c
   heard source (Err e) n c = c
 
   framed : (now : ℕ) (mine : Bool) (r : Result Frame FrameRefusal) (n : State) → Goes n (receiving.take_frame now mine r n)
@@ -205,5 +206,5 @@ pub fetched_on : (own : List Written) (n : State) → Peopled n → Peopled (fet
 fetched_on [] n x = (record { order = record { on = x.0.order.on; once = x.0.order.once; few = x.0.order.few }; once = x.0.once; lodged = x.0.lodged }, x.1)
 fetched_on (f ∷ fs) n x = x
 
-pub starts_on : (c : NodeConfig) → Peopled (new_station c)
-starts_on c = (record { order = record { on = tt; once = tt; few = omega arith }; once = λ peer. omega arith; lodged = λ peer some. absurd (omega (arith, some)) }, λ e. refl)
+pub starts_on : (hosts : Bool) (c : NodeConfig) → Peopled (start_of hosts c)
+starts_on hosts c = (record { order = record { on = tt; once = tt; few = omega arith }; once = λ peer. omega arith; lodged = λ peer some. absurd (omega (arith, some)) }, λ e. refl)

@@ -6,7 +6,7 @@ use Rattle.ax_address.specs.Callsign.{Callsign, IsCallsign}
 use Rattle.circuit_set.specs.Givings.{IsUp}
 use Rattle.circuit_set.specs.Pumps.{OfEach, of_circuits, runs, ticks_of, Dropped, Offers, Says, Turn, Turned, Waiting, heard_as, hears_by, sent_by_head, sent_to, tells_first, tells_of, with_done}
 use Rattle.circuit_set.specs.Runs.{IsAct}
-use Rattle.circuit_set.specs.Sets.{Act, Connect, Comes, Calls, Discard, Restart, Ticks, Holder, SetState, CircuitTold, Made, Sent, Heeded, Notice, Gone, Restarted, Lost, set_step}
+use Rattle.circuit_set.specs.Sets.{Act, Connect, ConnectFor, Comes, Calls, Discard, Restart, Ticks, Holder, SetState, CircuitTold, Made, Sent, Heeded, Notice, Gone, Restarted, Lost, set_step}
 use Rattle.l3_datagram.specs.Datagrams.{Parcel, head_at}
 use Rattle.l3_datagram.specs.Routers.{Way, Ends, ToNeighbour, forwarded_by, way}
 use Rattle.l3_datagram.specs.declared.datagram.DatagramHead.{DatagramHead}
@@ -32,11 +32,13 @@ told_of_both (x ∷ xs) ys s =
 abbrev pub IsInput : Act → Type 0
 IsInput (Restart pair more) = ⊥
 IsInput (Connect dest now) = IsCallsign dest.letters dest.ssid
+IsInput (ConnectFor user dest now) = IsCallsign user.letters user.ssid × IsCallsign dest.letters dest.ssid
 IsInput _ = Unit {0}
 
 is_act : (a : Act) → IsInput a → IsAct a
 is_act (Restart pair more) i = absurd i
 is_act (Connect dest now) i = i
+is_act (ConnectFor user dest now) i = i
 is_act (Comes d now) i = tt
 is_act (Calls id call now) i = tt
 is_act (Discard id) i = tt
@@ -48,6 +50,7 @@ are_acts (a ∷ inputs) is = (is_act a is.0, are_acts inputs is.1)
 is_up : (a : Act) → IsInput a → IsUp a
 is_up (Restart pair more) i = absurd i
 is_up (Connect dest now) i = tt
+is_up (ConnectFor user dest now) i = tt
 is_up (Comes d now) i = tt
 is_up (Calls id call now) i = tt
 is_up (Discard id) i = tt

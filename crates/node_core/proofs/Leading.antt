@@ -47,9 +47,9 @@ does now s new n result q h same d leads =
           call = same.own ∙ h.parts.call;
           set = d.stands;
         };
-        names = record { alias = h.names.alias; path_quality = h.names.path_quality; interval = h.names.interval; fits = h.names.fits };
+        names = record { alias = h.names.alias; path_quality = h.names.path_quality; qualities = h.names.qualities; interval = h.names.interval; fits = h.names.fits };
         queues = record { own = h.queues.own; entries = h.queues.entries };
-        users = record { prompt = h.users.prompt; sessions = h.users.sessions };
+        users = record { prompt = h.users.prompt; hosts = h.users.hosts; sessions = h.users.sessions };
         next_round = h.next_round;
       };
     }

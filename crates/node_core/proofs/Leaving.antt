@@ -9,7 +9,7 @@ use Rattle.circuit_l4.specs.State.{Effect}
 use Rattle.circuit_l4.specs.declared.pair.Pair.{Pair}
 use Rattle.circuit_set.specs.CircuitSets.{facts_at}
 use Rattle.circuit_set.specs.Sets as s
-use Rattle.circuit_set.specs.Sets.{Call, Calls, Comes, Connect, Holder, SetDone, SetState, CircuitTold, Made, Sent, Heeded, Notice, Gone, Restarted, Lost}
+use Rattle.circuit_set.specs.Sets.{Call, Calls, Comes, ConnectFor, Holder, SetDone, SetState, CircuitTold, Made, Sent, Heeded, Notice, Gone, Restarted, Lost}
 use Rattle.node_core.proofs.Ends.{In, Once, end_here, is_end, other_end}
 use Rattle.node_core.proofs.Holders.{Alive, calls, comes, connects, is_away}
 
@@ -95,9 +95,9 @@ pub comes_leaves : (set : SetState) (d : List ℕ) (now : ℕ) → LeavesHeld se
 comes_leaves set d now =
     comes (LeavesHeld set) (λ c. Unit {0}) set (stays set) (λ u v. Unit {0}) (λ u. tt) (λ u t now. tt) (goes_on set) (makes set) d now (λ head e. tt)
 
-pub connects_leaves : (set : SetState) (dest : Callsign) (now : ℕ) → LeavesHeld set (s.set_step set (Connect dest now))
-connects_leaves set dest now =
-    connects (LeavesHeld set) (λ c. Unit {0}) set (stays set) (λ u v. Unit {0}) (λ u. tt) (λ u t now. tt) (goes_on set) (makes set) dest now tt
+pub connects_leaves : (set : SetState) (user dest : Callsign) (now : ℕ) → LeavesHeld set (s.set_step set (ConnectFor user dest now))
+connects_leaves set user dest now =
+    connects (LeavesHeld set) (λ c. Unit {0}) set (stays set) (λ u v. Unit {0}) (λ u. tt) (λ u t now. tt) (goes_on set) (makes set) user dest now tt
 
 pub calls_leaves : (set : SetState) (id : ℕ) (call : Call) (now : ℕ) → LeavesHeld set (s.set_step set (Calls id call now))
 calls_leaves set id call now =

@@ -1,5 +1,6 @@
 pub mod Names
 pub mod Holding
+pub mod Hosted
 pub mod Outcomes
 pub mod Hearing
 pub mod Idle
@@ -17,6 +18,7 @@ pub mod Keeping
 pub mod Calls
 pub mod Leading
 pub mod Nodes
+pub mod Qualities
 pub mod Inputs
 pub mod Making
 pub mod Coming

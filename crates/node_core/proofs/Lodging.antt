@@ -2,6 +2,8 @@
 use Rattle.std.proofs.Common.{◌≡◌, ◌≤◌, ◌<◌, ◌+◌, ◌∙◌, ℕ, refl, sym, ap, subst, arith, List, [], ◌∷◌, ◌++◌, map, slice_get}
 use Rattle.std.specs.Prelude.{Bool, true, false, not, ◌&&◌, ◌||◌, filter, if◌then◌else◌, Some, None}
 use Rattle.std.specs.List.{AllByRecursion}
+use Rattle.arrayvec.specs.ArrayVec.{ArrayVec}
+use Rattle.ax_address.specs.declared.address.Address.{Address}
 use Rattle.ax_address.specs.Callsign.{Callsign, same_call}
 use Rattle.ax_link.specs.declared.notice.LinkNotice.{LinkNotice}
 use Rattle.ax_link.specs.declared.notice.LinkNotice.TheVariants as link
@@ -234,6 +236,10 @@ module _ (told : EndsAreTold) where
   pub sends : (peer : Callsign) (text : List ℕ) (now : ℕ) (t : Table) → LeavesTold t (links.send_text peer text now t)
   unfolding links.send_text
   sends peer text now t = told.sends t peer text now
+
+  pub opens : (peer : Callsign) (path : ArrayVec Address) (now : ℕ) (t : Table) → LeavesTold t (links.open_link peer path now t)
+  unfolding links.open_link
+  opens peer path now t = told.opens t peer path now
 
   pub closes : (peer : Callsign) (now : ℕ) (t : Table) → LeavesTold t (links.close peer now t)
   unfolding links.close

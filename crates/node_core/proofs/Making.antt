@@ -12,7 +12,7 @@ use Rattle.circuit_l4.specs.declared.pair.Pair.{Pair}
 use Rattle.circuit_l4.specs.declared.transport.Transport.{Transport}
 use Rattle.circuit_l4.specs.declared.transport.Transport.TheVariants.{Request, Accept, Refuse, Disconnect, Disconnected, Info, InfoAck}
 use Rattle.circuit_l4.specs.declared.transport.TransportRefusal.{TransportRefusal}
-use Rattle.circuit_set.specs.Sets.{heeds, Act, Connect, Comes, Calls, Discard, Restart, Call, Holder, SetDone, SetState, CircuitTold, Made, Sent, Heeded, Notice, Gone, Restarted, Lost, end_of, first_open, set_step}
+use Rattle.circuit_set.specs.Sets.{heeds, Act, Connect, ConnectFor, Comes, Calls, Discard, Restart, Call, Holder, SetDone, SetState, CircuitTold, Made, Sent, Heeded, Notice, Gone, Restarted, Lost, end_of, first_open, set_step}
 use Rattle.circuit_set.specs.Pumps.{runs}
 use Rattle.circuit_set.specs.Sets as s
 use Rattle.l3_datagram.specs.Datagrams.{head_at}
@@ -111,8 +111,8 @@ handed_ok t d (Err e) now = same_ok t
 handed_ok t d (Ok head) now =
     if_ok t (same_call head.origin t.own || not (same_call head.dest t.own)) _ _ (same_ok t) (read_ok t head.origin d _ now)
 
-pub connected_ok : (t : SetState) (dest : Callsign) (now : ℕ) → StepOk t (s.after_connecting t dest now)
-connected_ok t dest now = if_ok t (same_call dest t.own || s.is_full t) _ _ (same_ok t) (made_ok t dest None None (requesting (s.new_pair t) t.user t.own t.config (min now COUNT_MAX)))
+pub connected_ok : (t : SetState) (user dest : Callsign) (now : ℕ) → StepOk t (s.after_connecting_for t user dest now)
+connected_ok t user dest now = if_ok t (same_call dest t.own || s.is_full t) _ _ (same_ok t) (made_ok t dest None None (requesting (s.new_pair t) user t.own t.config (min now COUNT_MAX)))
 
 called_ok : (t : SetState) (o : Option Holder) (call : Call) (now : ℕ) → StepOk t (s.after_call t o call now)
 called_ok t None call now = same_ok t
@@ -123,7 +123,8 @@ discarded_ok t None = same_ok t
 discarded_ok t (Some h) = if_ok t (not h.gone && s.has_ended h.end.phase) _ _ (record { made = refl; own = refl }) (same_ok t)
 
 pub step_ok : (t : SetState) (a : Act) → IsInput a → StepOk t (set_step t a)
-step_ok t (Connect dest now) i = connected_ok t dest now
+step_ok t (Connect dest now) i = connected_ok t t.user dest now
+step_ok t (ConnectFor user dest now) i = connected_ok t user dest now
 step_ok t (Comes d now) i = handed_ok t d (head_at d) now
 step_ok t (Calls id call now) i = called_ok t (end_of id t.ends) call now
 step_ok t (Discard id) i = discarded_ok t (end_of id t.ends)
@@ -140,7 +141,8 @@ runs_ok t (a ∷ inputs) is =
 
 -- a step of any kind leaves the call
 pub own_stays : (t : SetState) (a : Act) → (set_step t a).set.own ≡ t.own
-own_stays t (Connect dest now) = (connected_ok t dest now).own
+own_stays t (Connect dest now) = (connected_ok t t.user dest now).own
+own_stays t (ConnectFor user dest now) = (connected_ok t user dest now).own
 own_stays t (Comes d now) = (handed_ok t d (head_at d) now).own
 own_stays t (Calls id call now) = (called_ok t (end_of id t.ends) call now).own
 own_stays t (Discard id) = (discarded_ok t (end_of id t.ends)).own

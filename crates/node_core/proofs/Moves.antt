@@ -3,6 +3,9 @@ use Rattle.std.proofs.Common.{◌≡◌, ℕ, refl, sym, ap, subst, List, [], �
 use Rattle.std.specs.Prelude.{Bool, true, false, if◌then◌else◌, nat_eq, map, Option}
 use Rattle.std.specs.List.{AllByRecursion, range_with_len}
 use Rattle.radio_base.specs.declared.payload.Payload.{Payload}
+use Rattle.arrayvec.specs.ArrayVec.{ArrayVec}
+use Rattle.ax_address.specs.declared.address.Address.{Address}
+use Rattle.link_table.specs.Reaching.{IsWay}
 use Rattle.ax_address.specs.Callsign.{Callsign}
 use Rattle.ax_address.specs.declared.alias.Alias.{Alias}
 use Rattle.ax_address.specs.declared.entry.Entry.{Entry as Said}
@@ -75,6 +78,10 @@ module _ (here : Place) (law : CarriesWhatWasOffered) (weaker : CarriesByWeaker)
   text_sent : (peer : Callsign) (text : List ℕ) (now : ℕ) (n : State) → Goes here n (at_links (links.send_text peer text now) n)
   unfolding links.send_text
   text_sent peer text now n = links_go n _ (λ sent c. (on sent).sends n.links peer text now c) (λ r. (spelled here.size).sends n.links peer text now r)
+
+  opened : (peer : Callsign) (path : ArrayVec Address) (now : ℕ) (n : State) → IsCall peer → IsWay path → Goes here n (at_links (links.open_link peer path now) n)
+  unfolding links.open_link
+  opened peer path now n call way = links_go n _ (λ sent c. (on sent).opens n.links peer path now c) (λ r. (spelled here.size).opens n.links peer path now call way r)
 
   closed : (peer : Callsign) (now : ℕ) (n : State) → Goes here n (at_links (links.close peer now) n)
   unfolding links.close
@@ -169,6 +176,7 @@ module _ (here : Place) (law : CarriesWhatWasOffered) (weaker : CarriesByWeaker)
 
   one_come : (a : Act) → IsAsking a → AllByRecursion (WasBorne here) (a ∷ [])
   one_come (sets.Connect dest now) i = (tt, tt)
+  one_come (sets.ConnectFor user dest now) i = (tt, tt)
   one_come (sets.Comes d now) i = absurd i
   one_come (sets.Calls id call now) i = (tt, tt)
   one_come (sets.Discard id) i = (tt, tt)
@@ -176,6 +184,7 @@ module _ (here : Place) (law : CarriesWhatWasOffered) (weaker : CarriesByWeaker)
 
   is_input : (a : Act) → IsAsking a → IsInput a
   is_input (sets.Connect dest now) i = i
+  is_input (sets.ConnectFor user dest now) i = i
   is_input (sets.Comes d now) i = absurd i
   is_input (sets.Calls id call now) i = tt
   is_input (sets.Discard id) i = tt
@@ -238,5 +247,6 @@ module _ (here : Place) (law : CarriesWhatWasOffered) (weaker : CarriesByWeaker)
       ticks = ticked;
       items = λ item n a. logged (item ∷ []) n (a, tt);
       fails = failed;
+      opens = opened;
     };
   }

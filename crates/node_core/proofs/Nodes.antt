@@ -22,7 +22,7 @@ use Rattle.node_core.specs.Standing.{Kept, NodeStands, view_of, Holds, IsDrained
 use Rattle.node_core.specs.Sound.{IsReached, IsSound}
 use Rattle.node_core.specs.Taking.{Takes}
 use Rattle.node_core.specs.Bridged.{AsksForCall, Bytes, Input, after, after_all}
-use Rattle.node_core.specs.Configs.{new_node}
+use Rattle.node_core.specs.Configs.{node_of}
 use Rattle.node_core.specs.Laws.{NothingLeftAfterInputs}
 use Rattle.node_core.specs.Receiving.{take_item}
 use Rattle.link_table.specs.declared.written.Written.{Written}
@@ -68,11 +68,12 @@ asked_more (j ∷ inputs) i a b = (a.0, asked_more inputs i a.1 b)
 
 pub led : (i : Input) → AsksForCall i → Leads (after i)
 led i asks n r = record {
+  hosts = r.hosts;
   config = r.config;
   inputs = r.inputs ++ i ∷ [];
   call = r.call;
   asked = asked_more r.inputs i r.asked asks;
-  is = after_more r.inputs i (new_node r.config) ∙ ap (after i) r.is;
+  is = after_more r.inputs i (node_of r.hosts r.config) ∙ ap (after i) r.is;
 }
 
 -- what an input leaves of what a node stands for, at a moment that is cut off
@@ -146,9 +147,9 @@ entry_fetched s s2 e same n h =
     ap (map entry_of) e ∙ (dropped_first s.entries.items ∙ ap (drop 1) h.queues.entries) in
     subst (λ (x : Station). Holds x (fetch_entry n)) (sym same) (record {
       parts = record { links = h.parts.links; log = h.parts.log; rules = h.parts.rules; own = h.parts.own; call = h.parts.call; set = h.parts.set };
-      names = record { alias = h.names.alias; path_quality = h.names.path_quality; interval = h.names.interval; fits = h.names.fits };
+      names = record { alias = h.names.alias; path_quality = h.names.path_quality; qualities = h.names.qualities; interval = h.names.interval; fits = h.names.fits };
       queues = record { own = h.queues.own; entries = entries };
-      users = record { prompt = h.users.prompt; sessions = h.users.sessions };
+      users = record { prompt = h.users.prompt; hosts = h.users.hosts; sessions = h.users.sessions };
       next_round = h.next_round;
     })
 

@@ -9,8 +9,8 @@ use Rattle.link_table.specs.Laws.{CarriesWhatWasOffered}
 use Rattle.link_table.specs.Kept.{OffersLeave, TakesLower}
 use Rattle.link_table.specs.declared.written.Written.{Written}
 use Rattle.node_core.specs.Acts as acts
-use Rattle.node_core.specs.Bridged.{Acts, AsksForCall, Bytes, Fetches_entry, Fetches_frame, Input, Paths, Ticks, UsersAreFew as EveryNodes, after, after_all}
-use Rattle.node_core.specs.Configs.{new_node}
+use Rattle.node_core.specs.Bridged.{Acts, AsksForCall, Bytes, Fetches_entry, Fetches_frame, Input, Paths, Qualities, Ticks, UsersAreFew as EveryNodes, after, after_all}
+use Rattle.node_core.specs.Configs.{node_of}
 use Rattle.node_core.specs.Inputs.{after_input, after_item, after_items, moment, new_items}
 use Rattle.node_core.specs.Receiving as receiving
 use Rattle.node_core.specs.Broadcasts as rounds
@@ -48,9 +48,14 @@ module _ (offers : OffersLeave) (takes : TakesLower) (less : TellsLess) (law : C
   any_lock (acts.LinkFail peer) = tt
   any_lock (acts.Lock dest alias neighbour quality) = tt
   any_lock (acts.Connect dest) = tt
+  any_lock (acts.ConnectFor user dest) = tt
   any_lock (acts.Write id message) = tt
   any_lock (acts.Take id) = tt
   any_lock (acts.Close id) = tt
+  any_lock (acts.TakeText peer) = tt
+  any_lock (acts.SendText to text) = tt
+  any_lock (acts.OpenLink to path) = tt
+  any_lock (acts.CloseLink peer) = tt
 
   fetched : (own : List Written) (n : State) → Crowd n → Crowd (fetch_own own n)
   fetched [] n c = record { people = fetched_on [] n c.people; few = c.few }
@@ -63,6 +68,7 @@ module _ (offers : OffersLeave) (takes : TakesLower) (less : TellsLess) (law : C
   goes_on (Acts now act) n call r s c =
       settles (moment now) (acts.do_act (moment now) act n.station).node s.ready (do_on Goes (λ item. Unit {0}) (walks told texts) (moment now) act n.station call (any_lock act) c.people)
   goes_on (Paths peer path) n call r s c = record { people = path_on peer path n.station c.people; few = c.few }
+  goes_on (Qualities neighbour quality) n call r s c = record { people = c.people; few = c.few }
   goes_on Fetches_frame n call r s c = fetched n.station.own n.station c
   goes_on Fetches_entry n call r s c = record { people = c.people; few = c.few }
 
@@ -73,6 +79,6 @@ module _ (offers : OffersLeave) (takes : TakesLower) (less : TellsLess) (law : C
       all_on inputs (after i n) calls.1 s (goes_on i n calls.0 r s c)
 
   pub every : EveryNodes
-  every c inputs call calls =
-      let crowd = all_on inputs (new_node c) calls (starts offers takes less law reads c call) (record { people = starts_on c; few = omega arith }) in
+  every hosts c inputs call calls =
+      let crowd = all_on inputs (node_of hosts c) calls (starts offers takes less law reads hosts c call) (record { people = starts_on hosts c; few = omega arith }) in
       (crowd.few, crowd.people.0.order.few)

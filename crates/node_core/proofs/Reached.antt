@@ -29,10 +29,10 @@ use Rattle.node_core.specs.declared.config.NodeConfig.{NodeConfig}
 use Rattle.node_core.specs.Acts as acts
 use Rattle.node_turns.specs.declared.stage.Stage.{Stage}
 use Rattle.node_turns.specs.declared.stage.Stage.TheVariants.{AtPrompt, Trying, Failed, Connected}
-use Rattle.node_core.specs.Bridged.{Acts, BridgedAt, Bytes, EverySession, Fetches_entry, Fetches_frame, Input, IsBounded, IsBridged, IsClosedLast, IsEndsReader, IsEndsWriter, AsksForCall, Paths, SessionsBounded, SessionsBridged, SessionsClosedLast, SessionsReadTheirEnds, SessionsWriteTheirEnds, Ticks, after, after_all}
+use Rattle.node_core.specs.Bridged.{Acts, BridgedAt, Bytes, EverySession, Fetches_entry, Fetches_frame, Input, IsBounded, IsBridged, IsClosedLast, IsEndsReader, IsEndsWriter, AsksForCall, Paths, Qualities, SessionsBounded, SessionsBridged, SessionsClosedLast, SessionsReadTheirEnds, SessionsWriteTheirEnds, Ticks, after, after_all}
 use Rattle.node_core.specs.Broadcasts.{is_broadcast}
 use Rattle.node_turns.specs.Links as links
-use Rattle.node_core.specs.Configs.{new_node, new_station}
+use Rattle.node_core.specs.Configs.{node_of, start_of}
 use Rattle.node_core.specs.Inputs.{after_input, after_item, after_items, moment, new_items, turns_settle}
 use Rattle.node_turns.specs.Pumping.{pump}
 use Rattle.node_core.specs.Receiving as receiving
@@ -77,7 +77,7 @@ module _ (offers : OffersLeave) (takes : TakesLower) (less : TellsLess) (law : C
   drop_fine now n (peer ∷ peers) f = f
 
   dropped : (now : ℕ) (n : State) → Fine n → Fine (s.drop_texts now n)
-  dropped now n f = kept (s.drop_text now) s.payloads Fine (λ m g. drop_fine now m (links.text_peers m.links) g) n f
+  dropped now n f = kept (s.drop_text now) s.payloads Fine (λ m g. drop_fine now m (s.dropped_peers m) g) n f
 
   turned : (now : ℕ) (n : State) → Fine n → IsShort n.links → Fine (s.turn now n).after
   turned now n f short = by b.settings.prompt
@@ -112,7 +112,7 @@ module _ (offers : OffersLeave) (takes : TakesLower) (less : TellsLess) (law : C
   taken_in items n f = either (with_items items n) _ (receiving.has_room items n) f f
 
   heard : (source : Callsign) (b : Result Broadcast NodesRefusal) (n : State) → Fine n → Fine (receiving.hear source b n)
-  heard source (Ok b) n f = taken_in (logs.broadcast n.settings.call source b.alias n.settings.path_quality b.entries) n f
+  heard source (Ok b) n f = taken_in (logs.broadcast n.settings.call source b.alias (receiving.quality_to source n) b.entries) n f
   heard source (Err e) n f = f
 
   framed : (now : ℕ) (mine : Bool) (r : Result Frame FrameRefusal) (n : State) → Fine n → Fine (receiving.take_frame now mine r n)
@@ -197,6 +197,7 @@ module _ (offers : OffersLeave) (takes : TakesLower) (less : TellsLess) (law : C
       let m : State = (acts.do_act (moment now) act n.station).node in
       record { ready = settled (moment now) m (act_fine (moment now) act n.station call r.told r.ready.0, act_short law (moment now) act n.station r.ready.1); told = told_after (nothing_left offers takes less) (moment now) m }
   reaches (Paths peer path) n call r = record { ready = (r.ready.0, path_short law peer path n.station r.ready.1); told = r.told }
+  reaches (Qualities neighbour quality) n call r = record { ready = r.ready; told = r.told }
   reaches Fetches_frame n call r = fetched n.station.own n.station r
   reaches Fetches_entry n call r = record { ready = r.ready; told = r.told }
 
@@ -204,8 +205,8 @@ module _ (offers : OffersLeave) (takes : TakesLower) (less : TellsLess) (law : C
   reached [] n calls r = r
   reached (i ∷ inputs) n calls r = reached inputs (after i n) calls.1 (reaches i n calls.0 r)
 
-  pub starts : (c : NodeConfig) → IsCall c.call → Reached (new_station c)
-  starts c call = record {
+  pub starts : (hosts : Bool) (c : NodeConfig) → IsCall c.call → Reached (start_of hosts c)
+  starts hosts c call = record {
     ready = (
       (
         record {
@@ -220,7 +221,7 @@ module _ (offers : OffersLeave) (takes : TakesLower) (less : TellsLess) (law : C
         },
         (tt, (tt, tt)),
       ),
-      starts_short c,
+      starts_short hosts c,
     );
     told = refl;
   }
@@ -230,9 +231,9 @@ module _ (offers : OffersLeave) (takes : TakesLower) (less : TellsLess) (law : C
   all_of P set f (x ∷ ss) e g w = (f x e.0 g.0 w.0, all_of P set f ss e.1 g.1 w.1)
 
   every : (P : State → Session → Type 0) → ((n : State) (x : Session) → Sound x → Given n.set.set x → WritesAll n.set.set x → P n x) → EverySession P
-  every P f c inputs call calls =
-      let n : State = (after_all inputs (new_node c)).station in
-      let fine = (reached inputs (new_node c) calls (starts c call)).ready.0 in
+  every P f hosts c inputs call calls =
+      let n : State = (after_all inputs (node_of hosts c)).station in
+      let fine = (reached inputs (node_of hosts c) calls (starts hosts c call)).ready.0 in
       all_of (P n) n.set.set (f n) n.sessions fine.1.0 fine.1.1.0 fine.1.1.1
 
   is_bridged : (n : State) (x : Session) → Sound x → Given n.set.set x → WritesAll n.set.set x → IsBridged n x

@@ -15,7 +15,7 @@ use Rattle.node_turns.specs.Turns.{SettlesTo, Turn, idle}
 use Rattle.node_core.specs.Waits.{WaitsForRoom}
 use Rattle.node_turns.proofs.Falling.{sessions_served}
 use Rattle.node_turns.proofs.Resting.{drop_falls, dropped_none, pumped_dry}
-use Rattle.node_turns.proofs.Settled.{users_served}
+use Rattle.node_turns.proofs.Settled.{users_served, hosted_idle}
 use Rattle.node_turns.proofs.Telling.{tells_to}
 use Rattle.node_turns.proofs.Turns.{once, settle_to, settled_rests}
 use Rattle.node_core.proofs.Waiting.{sessions_rest}
@@ -101,4 +101,5 @@ module _ (offers : OffersLeave) (takes : TakesLower) (less : TellsLess) where
     inputs = inputs_at;
     tells = λ now. settles_as (p.tell_turn now) (p.tell_all now) (tells_to now);
     drops = λ now. settles_as (serving.drop_text now) (serving.drop_texts now) (settle_to (serving.drop_text now) serving.payloads (drop_falls offers takes less now));
+    hosts = λ now n unserved hosted. hosted_idle offers takes less now n unserved hosted;
   }

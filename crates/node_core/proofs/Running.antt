@@ -67,6 +67,7 @@ round_came n =
 
 asked_came : (a : Act) (n : State) → IsAsking a → Came (write_in a) n (at_set (links.acts a) n)
 asked_came (sets.Connect dest now) n i = act_came (sets.Connect dest now) n i
+asked_came (sets.ConnectFor user dest now) n i = act_came (sets.ConnectFor user dest now) n i
 asked_came (sets.Comes datagram now) n i = absurd i
 asked_came (sets.Calls id call now) n i = act_came (sets.Calls id call now) n tt
 asked_came (sets.Discard id) n i = act_came (sets.Discard id) n tt
@@ -122,6 +123,8 @@ parts = record {
   asks = λ a n i e. record { some = write_in a; came = asked_came a n i; off = λ off. e };
   pumps = λ now n. silent n _ (pumped_came now n);
   takes_text = λ peer now n. silent n (at_links (links.take_text peer now) n) (same_came n (at_links (links.take_text peer now) n) refl refl refl);
+  sends_text = λ peer text now n. silent n (at_links (links.send_text peer text now) n) (same_came n (at_links (links.send_text peer text now) n) refl refl refl);
+  closes_link = λ peer now n. silent n (at_links (links.close peer now) n) (same_came n (at_links (links.close peer now) n) refl refl refl);
   others = record {
     notices = λ n. silent n (s.enter_notices n) (noticed_came n);
     rounds = λ n. silent n (rounds.do_round n) (round_came n);
@@ -129,6 +132,7 @@ parts = record {
     ticks = λ now n. silent n _ (record { more = []; grew = sym (append-nil n.entries); went = ticks_went now n.set; settings = refl });
     items = λ item n q. silent n (with_items (item ∷ []) n) (same_came n (with_items (item ∷ []) n) refl refl refl);
     fails = λ peer n. silent n (acts.fail_link peer n) (same_came n (acts.fail_link peer n) refl refl refl);
+    opens = λ peer path now n call way. silent n (at_links (links.open_link peer path now) n) (same_came n (at_links (links.open_link peer path now) n) refl refl refl);
   };
 }
 
@@ -157,9 +161,14 @@ done_by now acts.Round n i = do_by (CameBy []) AnyItem parts now acts.Round n i 
 done_by now (acts.LinkFail peer) n i = do_by (CameBy []) AnyItem parts now (acts.LinkFail peer) n i tt tt
 done_by now (acts.Lock dest alias neighbour quality) n i = do_by (CameBy []) AnyItem parts now (acts.Lock dest alias neighbour quality) n i tt tt
 done_by now (acts.Connect dest) n i = do_by (CameBy []) AnyItem parts now (acts.Connect dest) n i tt tt
+done_by now (acts.ConnectFor user dest) n i = do_by (CameBy []) AnyItem parts now (acts.ConnectFor user dest) n i tt tt
 done_by now (acts.Write id message) n i = unless_case now id message n (acts.is_kept id n) (acts.write now id message n) (write_case now id message n (write_answer (sets.end_of id n.set.set.ends) message))
 done_by now (acts.Take id) n i = do_by (CameBy []) AnyItem parts now (acts.Take id) n i tt tt
 done_by now (acts.Close id) n i = do_by (CameBy []) AnyItem parts now (acts.Close id) n i tt tt
+done_by now (acts.TakeText peer) n i = do_by (CameBy []) AnyItem parts now (acts.TakeText peer) n i tt tt
+done_by now (acts.SendText to text) n i = do_by (CameBy []) AnyItem parts now (acts.SendText to text) n i tt tt
+done_by now (acts.OpenLink to path) n i = do_by (CameBy []) AnyItem parts now (acts.OpenLink to path) n i tt tt
+done_by now (acts.CloseLink peer) n i = do_by (CameBy []) AnyItem parts now (acts.CloseLink peer) n i tt tt
 
 -- ---- KISS items
 

@@ -43,6 +43,7 @@ use Rattle.node_turns.specs.Users.{at_session, session_at}
 -- what a user asks the circuits for
 abbrev pub IsAsking : sets.Act → Type 0
 IsAsking (sets.Connect dest now) = IsCallsign dest.letters dest.ssid
+IsAsking (sets.ConnectFor user dest now) = IsCallsign user.letters user.ssid × IsCallsign dest.letters dest.ssid
 IsAsking (sets.Comes datagram now) = ⊥
 IsAsking (sets.Calls id call now) = Unit {0}
 IsAsking (sets.Discard id) = Unit {0}

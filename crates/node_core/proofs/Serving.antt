@@ -63,5 +63,8 @@ bare_filter test same (s ∷ ss) = rw (same s, bare_filter test same ss) (by_tes
 
 -- ---- the first of two that does something
 
+pub or_first : (first next : State → Turn State) (n : State) → (first n).did ≡ true → or_else first next n ≡ first n
+or_first first next n e = ap (λ (b : Bool). if b then first n else next (first n).after) e
+
 pub or_next : (first next : State → Turn State) (n : State) → (first n).did ≡ false → or_else first next n ≡ next (first n).after
 or_next first next n e = ap (λ (b : Bool). if b then first n else next (first n).after) e

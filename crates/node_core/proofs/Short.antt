@@ -28,6 +28,8 @@ use Rattle.link_table.specs.Texts as texts
 use Rattle.link_table.specs.Works.{is_text, text_by}
 use Rattle.link_table.specs.declared.written.Written.{Written}
 use Rattle.route_table.specs.Table.{to_broadcast}
+use Rattle.link_table.specs.declared.open_refusal.OpenRefusal.{OpenRefusal}
+use Rattle.link_table.specs.declared.text_refusal.TextRefusal.{TextRefusal}
 use Rattle.route_table.specs.Log as logs
 use Rattle.route_table.specs.Log.{Item}
 use Rattle.node_core.specs.declared.config.NodeConfig.{NodeConfig}
@@ -41,7 +43,7 @@ use Rattle.nodes_broadcast.specs.Nodes.{Broadcast, nodes_at}
 use Rattle.node_core.specs.Acts as acts
 use Rattle.node_core.specs.Acts.{Answered, UserAct}
 use Rattle.node_core.specs.Broadcasts.{is_broadcast, round_frames}
-use Rattle.node_core.specs.Configs.{new_station}
+use Rattle.node_core.specs.Configs.{start_of}
 use Rattle.node_turns.specs.Links as links
 use Rattle.node_turns.specs.Pumping.{pump}
 use Rattle.node_core.specs.Receiving as receiving
@@ -145,6 +147,10 @@ module _ (law : CarriesWhatWasOffered) where
   unfolding links.send_text
   sends peer text now t c = on.sends t peer text now c
 
+  opens : (peer : Callsign) (path : ArrayVec Address) (now : ℕ) (t : Table) → IsShort t → IsShort (links.open_link peer path now t)
+  unfolding links.open_link
+  opens peer path now t c = on.opens t peer path now c
+
   closes : (peer : Callsign) (now : ℕ) (t : Table) → IsShort t → IsShort (links.close peer now t)
   unfolding links.close
   closes peer now t c = on.closes t peer now c
@@ -194,6 +200,7 @@ module _ (law : CarriesWhatWasOffered) where
       ticks = λ now n c. ticked now n.links c;
       items = λ item n q c. c;
       fails = λ peer n c. breaks peer n.links c;
+      opens = λ peer path now n call way c. opens peer path now n.links c;
     };
   }
 
@@ -235,7 +242,7 @@ module _ (law : CarriesWhatWasOffered) where
   taken_in items n c = either (with_items items n) _ (receiving.has_room items n) c c
 
   heard : (source : Callsign) (b : Result Broadcast NodesRefusal) (n : State) → Goes n (receiving.hear source b n)
-  heard source (Ok b) n c = taken_in (logs.broadcast n.settings.call source b.alias n.settings.path_quality b.entries) n c
+  heard source (Ok b) n c = taken_in (logs.broadcast n.settings.call source b.alias (receiving.quality_to source n) b.entries) n c
   heard source (Err e) n c = c
 
   framed : (now : ℕ) (mine : Bool) (r : Result Frame FrameRefusal) (n : State) → Goes n (receiving.take_frame now mine r n)
@@ -270,6 +277,14 @@ module _ (law : CarriesWhatWasOffered) where
   writes (Ok _) a n c = c
   writes (Err why) a n c = c
 
+  texts_sent : (r : Result (Unit {0}) TextRefusal) (now : ℕ) (to : Callsign) (text : List ℕ) (n : State) → IsShort n.links → IsShort (acts.send_by r now to text n).node.links
+  texts_sent (Ok _) now to text n c = sends to text now n.links c
+  texts_sent (Err why) now to text n c = c
+
+  links_opened : (r : Result (Unit {0}) OpenRefusal) (now : ℕ) (to : Callsign) (path : ArrayVec Address) (n : State) → IsShort n.links → IsShort (acts.open_by r now to path n).node.links
+  links_opened (Ok _) now to path n c = opens to path now n.links c
+  links_opened (Err why) now to path n c = c
+
   pub act_short : (now : ℕ) (act : UserAct) (n : State) → IsShort n.links → IsShort (acts.do_act now act n).node.links
   act_short now acts.Round n c = rounds_on n c
   act_short now (acts.LinkFail peer) n c = breaks peer n.links c
@@ -278,10 +293,15 @@ module _ (law : CarriesWhatWasOffered) where
       (either_node _ _ (nat_lt quality n.settings.rules.minq) c
       (either_node (acts.answer_done (with_items (logs.Lock dest alias neighbour quality ∷ []) n)) _ (receiving.has_room (logs.Lock dest alias neighbour quality ∷ []) n) c c))
   act_short now (acts.Connect dest) n c = connects (connect_answer (next_hop n) dest n.set.set) (sets.Connect dest now) n c
+  act_short now (acts.ConnectFor user dest) n c = connects (connect_answer (next_hop n) dest n.set.set) (sets.ConnectFor user dest now) n c
   act_short now (acts.Write id message) n c =
       either_node _ _ (acts.is_kept id n) c (writes (write_answer (sets.end_of id n.set.set.ends) message) (sets.Calls id (sets.Writes message) now) n c)
   act_short now (acts.Take id) n c = either_node _ _ (acts.is_kept id n) c c
   act_short now (acts.Close id) n c = either_node _ _ (acts.is_kept id n) c c
+  act_short now (acts.TakeText peer) n c = either_node (acts.take_text now peer n) _ n.settings.hosts (takes peer now n.links c) c
+  act_short now (acts.SendText to text) n c = either_node (acts.send_text now to text n) _ n.settings.hosts (texts_sent (links.text_answer to text n.links) now to text n c) c
+  act_short now (acts.OpenLink to path) n c = either_node (acts.open_link now to path n) _ n.settings.hosts (links_opened (links.open_answer to path n.links) now to path n c) c
+  act_short now (acts.CloseLink peer) n c = either_node (acts.close_link now peer n) _ n.settings.hosts (closes peer now n.links c) c
 
   -- ---- what is set, and fetched; and a node as it starts
 
@@ -292,8 +312,8 @@ module _ (law : CarriesWhatWasOffered) where
   fetched_short [] n c = on.fetches n.links c
   fetched_short (f ∷ fs) n c = c
 
-pub starts_short : (c : NodeConfig) → IsShort (new_station c).links
-starts_short c = record { modulus = modulus c.modulo128; size = size c.modulo128; links = tt; waiting = tt; frames = tt }
+pub starts_short : (hosts : Bool) (c : NodeConfig) → IsShort (start_of hosts c).links
+starts_short hosts c = record { modulus = modulus c.modulo128; size = size c.modulo128; links = tt; waiting = tt; frames = tt }
   where
     modulus : (b : Bool) → (width b ≡ 8) ⊎ (width b ≡ 128)
     modulus true = inr refl

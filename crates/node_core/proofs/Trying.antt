@@ -59,7 +59,7 @@ record Made (set : SetState) (d : SetDone) : Type 0 where
 made_one : (dest : Callsign) (now : ℕ) (set : SetState) → set_step set (sets.Connect dest now) ≡ sets.requests set dest now → Made set (set_step set (sets.Connect dest now))
 made_one dest now set e =
     let d : SetDone = sets.requests set dest now in
-    let made : MadeFrom set.number d.told d.set.number = subst (λ (x : SetDone). MadeFrom set.number x.told x.set.number) e (connected_ok set dest now).made in
+    let made : MadeFrom set.number d.told d.set.number = subst (λ (x : SetDone). MadeFrom set.number x.told x.set.number) e (connected_ok set set.user dest now).made in
     let g : Effect = requesting (sets.new_pair set) set.user set.own set.config (min now COUNT_MAX) in
     let rest = none_made (set.number + 1) (sets.told_by set (sets.holder_of set dest None g) g) made.1 in
     let all : Made set d = record { number = refl; none = λ id. let r = rest id in omega (arith, r) } in
@@ -129,7 +129,7 @@ tried_owns dest now id nth n x call f e i ok = record {
     made = made_one dest now set ok.is
 
     keeps : Keeps Any set d.set
-    keeps = connects_keeps set dest now call
+    keeps = connects_keeps set set.user dest now call
 
     ss : List Session
     ss = (at_session nth (asking.tries id dest) n).sessions
@@ -155,7 +155,7 @@ tried_owns dest now id nth n x call f e i ok = record {
         subst (λ (y : SetDone). IsHeld set.number y.set y.told) (sym ok.is) (requested_held set dest g is)
 
     held_by : (k : ℕ) → (0 < total (asked_by k) n.sessions) ⊎ (0 < one (nat_eq id k)) → IsHeld k d.set (n.set.untold ++ d.told)
-    held_by k (inl before) = held_on set d n.set.untold k f.0.once (connects_leaves set dest now) (f.0.held k before)
+    held_by k (inl before) = held_on set d n.set.untold k f.0.once (connects_leaves set set.user dest now) (f.0.held k before)
     held_by k (inr some) = here (number_test id k)
       where
         here : (id ≡ k) ⊎ (nat_eq id k ≡ false) → IsHeld k d.set (n.set.untold ++ d.told)
@@ -192,7 +192,7 @@ asked_fine : (dest : Callsign) (now id nth : ℕ) (n : State) (x : Session) → 
 unfolding circuits.acts
 asked_fine dest now id nth n x call f e i ok =
     let set : SetState = (set_step n.set.set (sets.Connect dest now)).set in
-    let on = goes_on Any n.set.set set n.set.untold n.sessions (connects_keeps n.set.set dest now call) (connects_wrote n.set.set dest now) f in
+    let on = goes_on Any n.set.set set n.set.untold n.sessions (connects_keeps n.set.set n.set.set.user dest now call) (connects_wrote n.set.set n.set.set.user dest now) f in
     let new : WroteAt set id [] [] = subst (λ k. WroteAt set k [] []) (sym ok.number) (subst (λ (d : SetDone). WroteAt d.set n.set.set.number [] []) (sym ok.is) (asked_wrote n.set.set dest now f.0.below)) in (
       tried_owns dest now id nth n x call f e i ok,
       (

@@ -1,13 +1,18 @@
 -- What is so from one state of a node to another, and behind one another, is so of each input where it is so of each thing that it is made of.
 use Rattle.std.proofs.Common.{◌≡◌, ℕ, refl, List, [], ◌∷◌}
 use Rattle.std.specs.Prelude.{Bool, true, false, if◌then◌else◌, ◌+◌, ◌==◌, nat_lt, nat_le, Option, Some, None, Result, Ok, Err}
-use Rattle.ax_address.specs.Callsign.{Callsign, same_call, ReadsCallTexts}
+use Rattle.arrayvec.specs.ArrayVec.{ArrayVec}
+use Rattle.ax_address.specs.declared.address.Address.{Address}
+use Rattle.link_table.specs.Reaching.{IsWay}
+use Rattle.ax_address.specs.Callsign.{Callsign, IsCallsign, same_call, ReadsCallTexts}
 use Rattle.circuit_set.specs.declared.refusal.ConnectRefusal.{ConnectRefusal}
 use Rattle.circuit_set.specs.declared.refusal.SetRefusal.{SetRefusal}
 use Rattle.circuit_set.specs.Pumps.{connect_answer}
 use Rattle.circuit_set.specs.Sets as sets
 use Rattle.circuit_set.specs.Sets.{Act}
 use Rattle.circuit_set.specs.Standing.{write_answer}
+use Rattle.link_table.specs.declared.open_refusal.OpenRefusal.{OpenRefusal}
+use Rattle.link_table.specs.declared.text_refusal.TextRefusal.{TextRefusal}
 use Rattle.route_table.specs.Log as logs
 use Rattle.route_table.specs.Log.{Item}
 use Rattle.node_core.specs.Acts as acts
@@ -32,6 +37,7 @@ pub record Others (P : State → State → Type 0) (Q : Item → Type 0) : Type 
   pub ticks : (now : ℕ) (n : State) → P n (at_set (links.ticks now) (at_links (links.tick_links now) n))
   pub items : (item : Item) (n : State) → Q item → P n (with_items (item ∷ []) n)
   pub fails : (peer : Callsign) (n : State) → P n (acts.fail_link peer n)
+  pub opens : (peer : Callsign) (path : ArrayVec Address) (now : ℕ) (n : State) → IsCallsign peer.letters peer.ssid → IsWay path → P n (at_links (links.open_link peer path now) n)
 
 -- all that inputs are made of
 pub record Walks (P : State → State → Type 0) (Q : Item → Type 0) : Type 0 where
@@ -45,6 +51,8 @@ pub record Parts (P : State → State → Type 0) (Q : Item → Type 0) : Type 0
   pub asks : (a : Act) (n : State) → IsAsking a → write_in a ≡ [] → P n (at_set (links.acts a) n)
   pub pumps : (now : ℕ) (n : State) → P n (p.pump now n)
   pub takes_text : (peer : Callsign) (now : ℕ) (n : State) → P n (at_links (links.take_text peer now) n)
+  pub sends_text : (peer : Callsign) (text : List ℕ) (now : ℕ) (n : State) → P n (at_links (links.send_text peer text now) n)
+  pub closes_link : (peer : Callsign) (now : ℕ) (n : State) → P n (at_links (links.close peer now) n)
   pub others : Others P Q
 
 -- what users are served with, where they are served
@@ -73,7 +81,7 @@ module _ (P : State → State → Type 0) (Q : Item → Type 0) (w : Parts P Q) 
   drop_on now o n (peer ∷ peers) x = w.follows o n (at_links (links.take_text peer now) n) x (w.takes_text peer now n)
 
   dropped_on : (now : ℕ) (n : State) → P n (s.drop_texts now n)
-  dropped_on now n = kept (s.drop_text now) s.payloads (P n) (λ m x. drop_on now n m (links.text_peers m.links) x) n (w.still n)
+  dropped_on now n = kept (s.drop_text now) s.payloads (P n) (λ m x. drop_on now n m (s.dropped_peers m) x) n (w.still n)
 
   users_by : ServesSo P → (now : ℕ) (n : State) (b : Bool) → n.settings.prompt ≡ b → P n (if b then serve_sessions now n else s.drop_turn now n).after
   users_by served now n true e = served now n e
@@ -121,15 +129,28 @@ module _ (P : State → State → Type 0) (Q : Item → Type 0) (w : Parts P Q) 
   write_on (Ok _) a n x = x
   write_on (Err why) a n x = w.still n
 
+  send_on : (r : Result (Unit {0}) TextRefusal) (now : ℕ) (to : Callsign) (text : List ℕ) (n : State) → P n (acts.send_by r now to text n).node
+  send_on (Ok _) now to text n = w.sends_text to text now n
+  send_on (Err why) now to text n = w.still n
+
+  open_on : (r : Result (Unit {0}) OpenRefusal) (now : ℕ) (to : Callsign) (path : ArrayVec Address) (n : State) → IsUserAct (acts.OpenLink to path) → P n (acts.open_by r now to path n).node
+  open_on (Ok _) now to path n i = w.others.opens to path now n i.0 i.1
+  open_on (Err why) now to path n i = w.still n
+
   pub do_by : (now : ℕ) (act : UserAct) (n : State) → IsUserAct act → LocksBy Q act → WritesSo P now act → P n (acts.do_act now act n).node
   do_by now acts.Round n i q x = w.others.rounds n
   do_by now (acts.LinkFail peer) n i q x = w.others.fails peer n
   do_by now (acts.Lock dest alias neighbour quality) n i q x = lock_on dest (logs.Lock dest alias neighbour quality) quality n q
   do_by now (acts.Connect dest) n i q x = connect_on (connect_answer (next_hop n) dest n.set.set) (sets.Connect dest now) n i refl
+  do_by now (acts.ConnectFor user dest) n i q x = connect_on (connect_answer (next_hop n) dest n.set.set) (sets.ConnectFor user dest now) n i refl
   do_by now (acts.Write id message) n i q x =
       either_node n _ _ (acts.is_kept id n) (w.still n) (write_on (write_answer (sets.end_of id n.set.set.ends) message) (sets.Calls id (sets.Writes message) now) n (x n))
   do_by now (acts.Take id) n i q x = either_node n _ _ (acts.is_kept id n) (w.still n) (w.asks (sets.Calls id sets.Takes now) n tt refl)
   do_by now (acts.Close id) n i q x = either_node n _ _ (acts.is_kept id n) (w.still n) (w.asks (sets.Calls id sets.Closes now) n tt refl)
+  do_by now (acts.TakeText peer) n i q x = either_node n (acts.take_text now peer n) _ n.settings.hosts (w.takes_text peer now n) (w.still n)
+  do_by now (acts.SendText to text) n i q x = either_node n (acts.send_text now to text n) _ n.settings.hosts (send_on (links.text_answer to text n.links) now to text n) (w.still n)
+  do_by now (acts.OpenLink to path) n i q x = either_node n (acts.open_link now to path n) _ n.settings.hosts (open_on (links.open_answer to path n.links) now to path n i) (w.still n)
+  do_by now (acts.CloseLink peer) n i q x = either_node n (acts.close_link now peer n) _ n.settings.hosts (w.closes_link peer now n) (w.still n)
 
 module _ (P : State → State → Type 0) (Q : Item → Type 0) (w : Walks P Q) where
   parts : Parts P Q
@@ -139,6 +160,8 @@ module _ (P : State → State → Type 0) (Q : Item → Type 0) (w : Walks P Q) 
     asks = λ a n i e. w.serves.acts a n i;
     pumps = w.serves.pumps;
     takes_text = w.serves.takes_text;
+    sends_text = w.serves.sends_text;
+    closes_link = w.serves.closes_link;
     others = w.others;
   }
 
@@ -150,9 +173,14 @@ module _ (P : State → State → Type 0) (Q : Item → Type 0) (w : Walks P Q) 
   writes_so now (acts.LinkFail peer) = tt
   writes_so now (acts.Lock dest alias neighbour quality) = tt
   writes_so now (acts.Connect dest) = tt
+  writes_so now (acts.ConnectFor user dest) = tt
   writes_so now (acts.Write id message) = λ n. w.serves.acts (sets.Calls id (sets.Writes message) now) n tt
   writes_so now (acts.Take id) = tt
   writes_so now (acts.Close id) = tt
+  writes_so now (acts.TakeText peer) = tt
+  writes_so now (acts.SendText to text) = tt
+  writes_so now (acts.OpenLink to path) = tt
+  writes_so now (acts.CloseLink peer) = tt
 
   pub turn_on : ReadsCallTexts → (now : ℕ) (n : State) → P n (s.turn now n).after
   turn_on reads now n = turn_by P Q parts (serves_so reads) now n

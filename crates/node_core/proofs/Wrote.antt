@@ -13,7 +13,7 @@ use Rattle.circuit_l4.specs.declared.notice.EndNotice.TheVariants as notice
 use Rattle.circuit_l4.specs.declared.pair.Pair.{Pair}
 use Rattle.circuit_l4.specs.declared.transport.Transport.{Transport}
 use Rattle.circuit_set.specs.Sets as s
-use Rattle.circuit_set.specs.Sets.{Call, Calls, Comes, Connect, Holder, SetState, CircuitTold, Closes, Takes, Ticks, Writes}
+use Rattle.circuit_set.specs.Sets.{Call, Calls, Comes, ConnectFor, Holder, SetState, CircuitTold, Closes, Takes, Ticks, Writes}
 use Rattle.circuit_set.specs.Standing as answers
 use Rattle.circuit_set.specs.declared.refusal.SetRefusal.TheVariants as set_refusal
 use Rattle.circuit_l4.specs.Opening.{requesting}
@@ -109,8 +109,8 @@ wrote_stays set id ms gs o w = w
 pub comes_wrote : (set : SetState) (d : List ℕ) (now : ℕ) → KeepsWrote set (s.set_step set (Comes d now)).set
 comes_wrote set d now = comes (λ d. KeepsWrote set d.set) (λ c. Unit {0}) set (λ told. wrote_stays set) SameWrote same_itself arrives_same (wrote_at set) (wrote_made set) d now (λ head e. tt)
 
-pub connects_wrote : (set : SetState) (dest : Callsign) (now : ℕ) → KeepsWrote set (s.set_step set (Connect dest now)).set
-connects_wrote set dest now = connects (λ d. KeepsWrote set d.set) (λ c. Unit {0}) set (λ told. wrote_stays set) SameWrote same_itself arrives_same (wrote_at set) (wrote_made set) dest now tt
+pub connects_wrote : (set : SetState) (user dest : Callsign) (now : ℕ) → KeepsWrote set (s.set_step set (ConnectFor user dest now)).set
+connects_wrote set user dest now = connects (λ d. KeepsWrote set d.set) (λ c. Unit {0}) set (λ told. wrote_stays set) SameWrote same_itself arrives_same (wrote_at set) (wrote_made set) user dest now tt
 
 calls_wrote : (set : SetState) (id : ℕ) (call : Call) (now : ℕ) → ((h : Holder) → SameWrote h.end (end.step h.end (s.input_of call) now).end) → KeepsWrote set (s.set_step set (Calls id call now)).set
 calls_wrote set id call now l = calls (λ d. KeepsWrote set d.set) (λ c. Unit {0}) set (λ told. wrote_stays set) SameWrote same_itself arrives_same (wrote_at set) (wrote_made set) id call now l

@@ -1,6 +1,7 @@
 -- What a node keeps, in octets, and the most that it may (this project's profile): all its buffers of octets, and 64 for each usable
 -- pair of destination and neighbour. Frames and entries that wait to be fetched are left out. What stands beside the octets is left
--- out, too: the lengths of the messages in a ring, numbers, times and calls, which are of one size for each link, end and session.
+-- out, too: the lengths of the messages in a ring, numbers, times and calls, which are of one size for each link, end and session; and
+-- the qualities of single neighbours.
 use Rattle.std.specs.Prelude.{ℕ, ◌+◌, ◌*◌, ◌≤◌, length}
 use Rattle.circuit_set.specs.Kept as ends
 use Rattle.kiss_framing.specs.Stream as kiss
@@ -29,15 +30,21 @@ abbrev pub kept : Kept → ℕ
 kept k =
     kiss.kept k.deframer + links.kept k.station.set.router.carrier + ends.kept k.station.set.held + 8192 * users_of k + 64 * pairs_of k
 
+-- how many neighbours have a path quality of their own
+abbrev pub qualities_of : Kept → ℕ
+qualities_of k = length k.station.qualities.by_call.entries
+
 -- The most of it: a link keeps at most 98,175 octets, an end 90,347 and 236 for each fragment of its window, and a user is at a link or
 -- an end
 abbrev pub bound : Kept → ℕ
 bound k = 140000 * links_of k + 100000 * ends_of k + 236 * windows_of k + 64 * pairs_of k + 16384
 
--- It keeps no more than that, has at most 64 links, 64 ends and 16,384 usable pairs, and serves no more users than its links and ends
+-- It keeps no more than that, has at most 64 links, 64 ends, 16,384 usable pairs and 16 qualities of single neighbours, and serves no
+-- more users than its links and ends
 pub record IsWithin (k : Kept) : Type 0 where
   pub bound : kept k ≤ bound k
   pub links : links_of k ≤ 64
   pub ends : ends_of k ≤ 64
   pub pairs : pairs_of k ≤ 16384
+  pub qualities : qualities_of k ≤ 16
   pub users : users_of k ≤ links_of k + ends_of k

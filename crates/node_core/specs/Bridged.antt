@@ -1,5 +1,5 @@
 -- What goes between a user and its circuit arrives whole and in order, each way; and what a session keeps is bounded. Own profile.
-use Rattle.std.specs.Prelude.{ℕ, ◌≡◌, ◌+◌, ◌≤◌, true, false, Some, List, [], ◌∷◌, ◌++◌, length}
+use Rattle.std.specs.Prelude.{ℕ, ◌≡◌, ◌+◌, ◌≤◌, Bool, true, false, Some, List, [], ◌∷◌, ◌++◌, length}
 use Rattle.std.specs.List.{AllByRecursion}
 use Rattle.ax_address.specs.Callsign.{Callsign}
 use Rattle.ax_address.specs.declared.address.Address.{Address}
@@ -13,8 +13,9 @@ use Rattle.node_core.specs.declared.config.NodeConfig.{NodeConfig}
 use Rattle.node_turns.specs.declared.circuit.Circuit.{Circuit}
 use Rattle.node_turns.specs.declared.stage.Stage.{Stage}
 use Rattle.node_turns.specs.declared.stage.Stage.TheVariants.{AtPrompt, Trying, Failed, Connected}
-use Rattle.node_core.specs.Configs.{new_node}
+use Rattle.node_core.specs.Configs.{node_of}
 use Rattle.node_core.specs.Inputs.{after_act, after_bytes, after_tick}
+use Rattle.node_core.specs.Qualities.{with_quality}
 use Rattle.node_core.specs.Runs.{IsUserAct}
 use Rattle.node_turns.specs.Sessions.{Bridge, Session, circuit_of, waits}
 use Rattle.node_core.specs.Acts.{UserAct}
@@ -82,6 +83,7 @@ pub data Input : Type 0 where
   Ticks : (now : ℕ) → Input
   Acts : (now : ℕ) (act : UserAct) → Input
   Paths : (peer : Callsign) (path : ArrayVec Address) → Input  -- the repeaters to a peer are set
+  Qualities : (neighbour : Callsign) (quality : ℕ) → Input  -- the quality of the path to a neighbour is set
   Fetches_frame : Input
   Fetches_entry : Input
 
@@ -90,6 +92,7 @@ after (Bytes now bytes) n = after_bytes now bytes n
 after (Ticks now) n = after_tick now n
 after (Acts now act) n = after_act now act n
 after (Paths peer path) n = record n { station = at_links (with_path peer path) n.station }
+after (Qualities neighbour quality) n = record n { station = with_quality neighbour quality n.station }
 after Fetches_frame n = record n { station = fetch_frame n.station }
 after Fetches_entry n = record n { station = fetch_entry n.station }
 
@@ -102,11 +105,11 @@ abbrev pub AsksForCall : Input → Type 0
 AsksForCall (Acts now act) = IsUserAct act
 AsksForCall _ = Unit {0}
 
--- each session that a node with a call comes to from its start, with the node
+-- each session that a node with a call comes to from its start, whether or not it hosts users, with the node
 abbrev pub EverySession : (State → Session → Type 0) → Type 0
 EverySession P =
-    (c : NodeConfig) (inputs : List Input) → IsCall c.call → AllByRecursion AsksForCall inputs
-    → let n : State = (after_all inputs (new_node c)).station in AllByRecursion (P n) n.sessions
+    (hosts : Bool) (c : NodeConfig) (inputs : List Input) → IsCall c.call → AllByRecursion AsksForCall inputs
+    → let n : State = (after_all inputs (node_of hosts c)).station in AllByRecursion (P n) n.sessions
 
 abbrev pub SessionsBridged : Type 0
 SessionsBridged = EverySession IsBridged
@@ -129,6 +132,6 @@ SessionsBounded = EverySession (λ n. IsBounded)
 -- links
 abbrev pub UsersAreFew : Type 0
 UsersAreFew =
-    (c : NodeConfig) (inputs : List Input) → IsCall c.call → AllByRecursion AsksForCall inputs
-    → let n : State = (after_all inputs (new_node c)).station in
+    (hosts : Bool) (c : NodeConfig) (inputs : List Input) → IsCall c.call → AllByRecursion AsksForCall inputs
+    → let n : State = (after_all inputs (node_of hosts c)).station in
     (length n.sessions ≤ length n.links.links + length (held_ids n.set.set.ends)) × (length n.links.links ≤ 64)

@@ -1,5 +1,5 @@
 -- The settings with which a node starts.
-use Rattle.std.specs.Prelude.{◌≤◌, ◌+◌, [], None}
+use Rattle.std.specs.Prelude.{◌≤◌, ◌+◌, Bool, true, false, [], None}
 use Rattle.ax_link.specs.State.{count_end}
 use Rattle.circuit_l4.specs.Opening as ends
 use Rattle.circuit_set.specs.Pairs.{IsPair}
@@ -24,11 +24,20 @@ pub record IsConfig (c : NodeConfig) : Type 0 where
   pub first : 1 ≤ c.first
   pub last : c.first ≤ COUNT_MAX + 1
 
--- a node as it starts, above its KISS bytes
-abbrev pub new_station : NodeConfig → State
-new_station c =
+-- a node as it starts, above its KISS bytes; one that hosts users, or not
+abbrev pub start_of : Bool → NodeConfig → State
+start_of hosts c =
     record {
-      settings = record { call = c.call; alias = c.alias; rules = c.routes; path_quality = c.quality; prompt = c.prompt; interval = c.interval };
+      settings = record {
+        call = c.call;
+        alias = c.alias;
+        rules = c.routes;
+        path_quality = c.quality;
+        qualities = [];
+        prompt = c.prompt;
+        hosts = hosts;
+        interval = c.interval;
+      };
       log = [];
       links = no_links c.call c.links (width c.modulo128) c.link;
       set = at_rest (sets.new_set c.call c.ttl c.call c.ends c.pair c.first);
@@ -38,5 +47,15 @@ new_station c =
       sessions = [];
     }
 
+abbrev pub new_station : NodeConfig → State
+new_station c = start_of false c
+
+abbrev pub node_of : Bool → NodeConfig → NodeState
+node_of hosts c = record { stream = []; station = start_of hosts c }
+
 abbrev pub new_node : NodeConfig → NodeState
-new_node c = record { stream = []; station = new_station c }
+new_node c = node_of false c
+
+-- whoever holds it serves its users
+abbrev pub hosting_node : NodeConfig → NodeState
+hosting_node c = node_of true c

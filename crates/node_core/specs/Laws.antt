@@ -1,5 +1,5 @@
 -- What holds of every node.
-use Rattle.std.specs.Prelude.{ℕ, ◌≡◌, ◌↔◌, true, []}
+use Rattle.std.specs.Prelude.{ℕ, ◌≡◌, ◌↔◌, true, false, []}
 use Rattle.std.specs.List.{AllByRecursion}
 use Rattle.node_turns.specs.Links.{text_peers}
 use Rattle.node_core.specs.Inputs.{after_input}
@@ -28,8 +28,10 @@ NothingLeftAfterInputs = (now : ℕ) (n : State) → NothingLeft now (after_inpu
 abbrev pub SettlesAs : (State → Turn State) → (State → State) → Type 0
 SettlesAs turn settled = (n m : State) → (settled n ≡ m) ↔ SettlesTo turn n m
 
--- So it is with what follows an input, with the telling, and with the texts that are dropped.
+-- So it is with what follows an input, with the telling, and with the texts that are dropped. Where whoever holds the node serves its
+-- users, serving them does nothing: their texts stay.
 pub record InputsSettle : Type 0 where
   pub inputs : (now : ℕ) → SettlesAs (turn now) (after_input now)
   pub tells : (now : ℕ) → SettlesAs (tell_turn now) (tell_all now)
   pub drops : (now : ℕ) → SettlesAs (drop_text now) (drop_texts now)
+  pub hosts : (now : ℕ) (n : State) → n.settings.prompt ≡ false → n.settings.hosts ≡ true → serve_users now n ≡ idle n

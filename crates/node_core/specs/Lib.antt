@@ -1,6 +1,7 @@
 pub mod Waits
 pub mod Broadcasts
 pub mod Receiving
+pub mod Qualities
 pub mod Acts
 pub mod Inputs
 pub mod Laws

@@ -1,7 +1,8 @@
 -- What a node does with a KISS item, before it settles (AX.25 2.2, section 3.12, and NET/ROM, Appendix B; what is dropped is this
 -- project's profile).
-use Rattle.std.specs.Prelude.{ℕ, ◌+◌, ◌*◌, Bool, true, false, ◌&&◌, ◌==◌, bit_or, nat_le, if◌then◌else◌, List, [], ◌∷◌, ◌++◌, length, slice_index, slice_set, Result, Ok, Err}
+use Rattle.std.specs.Prelude.{ℕ, ◌+◌, ◌*◌, Bool, true, false, ◌&&◌, ◌==◌, bit_or, nat_le, if◌then◌else◌, List, [], ◌∷◌, ◌++◌, length, slice_index, slice_set, unwrap_or, Result, Ok, Err}
 use Rattle.std.specs.List.{prefix_len}
+use Rattle.std.specs.Map.{lookup}
 use Rattle.ax_address.specs.Callsign.{Callsign, same_call}
 use Rattle.ax_address.specs.declared.address.Address.{Address}
 use Rattle.ax_frame.specs.declared.head.Head.{Head}
@@ -48,8 +49,12 @@ take_in items n =
     then with_items items n
     else enter (Overflow (length (usable n.settings.rules n.log)) (live_with items n) ∷ []) n
 
+-- the quality of the path to a neighbour: its own, or else the node's
+abbrev pub quality_to : Callsign → State → ℕ
+quality_to neighbour n = unwrap_or (lookup (same_call neighbour) n.settings.qualities) n.settings.path_quality
+
 abbrev pub hear : Callsign → Result Broadcast NodesRefusal → State → State
-hear source (Ok b) n = take_in (broadcast n.settings.call source b.alias n.settings.path_quality b.entries) n
+hear source (Ok b) n = take_in (broadcast n.settings.call source b.alias (quality_to source n) b.entries) n
 hear source (Err e) n = n
 
 -- a frame that no repeater has to repeat any more: a broadcast is heard, and another one to this node goes to its links

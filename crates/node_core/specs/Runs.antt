@@ -2,6 +2,7 @@
 use Rattle.std.specs.Prelude.{ℕ, ◌≡◌, ◌+◌, false, List, [], ◌∷◌, ◌++◌, slice_get, slice_set, Some, Result, Ok}
 use Rattle.std.specs.List.{AllByRecursion}
 use Rattle.ax_address.specs.Callsign.{IsCallsign}
+use Rattle.link_table.specs.Reaching.{IsWay}
 use Rattle.circuit_set.specs.Givings.{IsUp}
 use Rattle.circuit_set.specs.Pumps.{of_circuits, runs, at_rest}
 use Rattle.circuit_set.specs.Runs.{IsAct, Step, events_at, events_of, sets_run}
@@ -11,7 +12,7 @@ use Rattle.node_core.specs.declared.acts.ActRefusal.{ActRefusal}
 use Rattle.node_core.specs.Inputs.{act_answer, after_act, after_bytes, after_tick, moment}
 use Rattle.node_core.specs.Standing.{IsTold}
 use Rattle.node_turns.specs.States.{Entry, NodeState, Of_link, Of_set, Overflow, State}
-use Rattle.node_core.specs.Acts.{UserAct, Connect, Write}
+use Rattle.node_core.specs.Acts.{UserAct, Connect, ConnectFor, OpenLink, Write}
 
 -- what is told of circuits in these entries, in order
 abbrev pub circuits_told : List Entry → List CircuitTold
@@ -59,9 +60,11 @@ pub record RunsBy (written : List Act) (old new : State) : Type 0 where
   pub run : RunsOn old new
   pub writes : old.settings.prompt ≡ false → writes_in run.inputs ≡ written
 
--- a circuit is asked for with a callsign
+-- a circuit is asked for with a callsign, and for one; and a link, over callsigns
 abbrev pub IsUserAct : UserAct → Type 0
 IsUserAct (Connect dest) = IsCallsign dest.letters dest.ssid
+IsUserAct (ConnectFor user dest) = IsCallsign user.letters user.ssid × IsCallsign dest.letters dest.ssid
+IsUserAct (OpenLink to path) = IsCallsign to.letters to.ssid × IsWay path
 IsUserAct _ = Unit {0}
 
 -- so does each input of a node that is at rest

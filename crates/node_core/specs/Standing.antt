@@ -34,6 +34,7 @@ pub record HoldsParts (c : Circuits TableView) (n : State) : Type 0 where
 pub record HoldsNames (s : Station) (n : State) : Type 0 where
   pub alias : s.alias ≡ n.settings.alias
   pub path_quality : s.path_quality ≡ n.settings.path_quality
+  pub qualities : s.qualities.by_call.entries ≡ n.settings.qualities
   pub interval : s.interval ≡ n.settings.interval
   pub fits : n.settings.interval ≤ count_end
 
@@ -44,6 +45,7 @@ pub record HoldsQueues (s : Station) (n : State) : Type 0 where
 -- the users are those of the state, but for what went over their bridges
 pub record HoldsUsers (s : Station) (n : State) : Type 0 where
   pub prompt : s.prompt ≡ n.settings.prompt
+  pub hosts : s.hosts ≡ n.settings.hosts
   pub sessions : s.sessions.items ≡ map bare n.sessions
 
 -- a node above its KISS bytes stands for a state
@@ -81,6 +83,9 @@ view_of deframer station spent = record { deframer = deframer; station = station
 -- the circuits that it lends, and with them its router, table and links
 abbrev pub circuits_of : Kept → Circuits LinkTable
 circuits_of k = k.station.set
+
+abbrev pub links_of : Kept → LinkTable
+links_of k = k.station.set.router.carrier
 
 -- A node that isn't spent stands for a state between two inputs: its deframer for all bytes that came, its set and queues for
 -- those of the state, of which nothing is untold.

@@ -54,6 +54,7 @@ impl Station {
                 quality,
             } => self.lock(dest, alias, neighbour, *quality),
             UserAct::Connect(dest) => self.connect(dest, now),
+            UserAct::ConnectFor { user, dest } => self.connect_for(user, dest, now),
             UserAct::Write { id, message } => {
                 if self.is_kept_from(*id) {
                     return Err(ActRefusal::Served);
@@ -71,6 +72,30 @@ impl Station {
                     return Err(ActRefusal::Served);
                 }
                 self.close(*id, now)
+            }
+            UserAct::TakeText(peer) => {
+                if !self.hosts {
+                    return Err(ActRefusal::Served);
+                }
+                self.take_hosted(peer, now)
+            }
+            UserAct::SendText { to, text } => {
+                if !self.hosts {
+                    return Err(ActRefusal::Served);
+                }
+                self.send_hosted(to, text, now)
+            }
+            UserAct::OpenLink { to, path } => {
+                if !self.hosts {
+                    return Err(ActRefusal::Served);
+                }
+                self.open_hosted(to, path, now)
+            }
+            UserAct::CloseLink(peer) => {
+                if !self.hosts {
+                    return Err(ActRefusal::Served);
+                }
+                self.close_hosted(peer, now)
             }
         }
     }
@@ -106,6 +131,15 @@ impl Station {
         ensures { Acts (acts.do_act now.0 (acts.Connect dest.now)) self.old self.new result }
     {
         let id = self.set.connect(dest, now)?;
+        Ok(ActDone::Made(id))
+    }
+
+    /// Asks for a circuit with a node in the name of this user.
+    fn connect_for(&mut self, user: &Call, dest: &Call, now: Moment) -> Result<ActDone, ActRefusal>
+        requires { IsDrained self.old }
+        ensures { Acts (acts.do_act now.0 (acts.ConnectFor user.now dest.now)) self.old self.new result }
+    {
+        let id = self.set.connect_for(user, dest, now)?;
         Ok(ActDone::Made(id))
     }
 

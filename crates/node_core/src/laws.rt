@@ -9,7 +9,8 @@ ghost use Rattle.node_core.specs.Runs.{ActsRun, BytesRun, InputsAreSteps, TicksR
 ghost use Rattle.node_core.specs.Laws.{InputsSettle, NothingLeftAfterInputs};
 
 /// What follows an input is a turn, and where that did something a turn again, until one does nothing: from each state these come to one
-/// that does, and to no other. So do the telling and the dropping of texts in a turn. And after an input nothing is left to be done.
+/// that does, and to no other. So do the telling and the dropping of texts in a turn. Where whoever holds the node serves its users, serving
+/// them does nothing. And after an input nothing is left to be done.
 pub fn settles()
     ensures settles { InputsSettle }
     ensures nothing { NothingLeftAfterInputs }
@@ -48,7 +49,7 @@ pub fn datagrams_are_carried()
 }
 
 /// What a node carries is such, too, where more was sent and more was in the air, as its frames are fetched and its entries told, and as repeaters
-/// are set; each of its frames is such, and what such a frame carries is as its octets are read; a broadcast of a call carries nothing; and a node
+/// and qualities are set; each of its frames is such, and what such a frame carries is as its octets are read; a broadcast of a call carries nothing; and a node
 /// starts so.
 pub fn carried_further()
     ensures { CarriedFurther }

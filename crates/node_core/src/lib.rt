@@ -9,8 +9,11 @@ mod broadcasts;
 mod config;
 mod entry;
 mod feeding;
+mod hosting;
 pub mod laws;
 mod node;
+mod path_qualities;
+mod quality_refusal;
 mod receiving;
 mod rounds;
 mod sessions;
@@ -23,4 +26,8 @@ pub use broadcasts::broadcast_frame;
 pub use config::NodeConfig;
 pub use entry::NodeEntry;
 pub use node::Node;
+pub use quality_refusal::QualityRefusal;
 pub use taken_message::TakenMessage;
+
+/// The most neighbours to which the path has a quality of its own (this project's profile).
+pub const MAX_QUALITIES: usize = 16;

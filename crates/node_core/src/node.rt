@@ -1,11 +1,13 @@
 //! A whole node.
 ghost use Rattle.std.specs.Prelude.{◌≡◌, ◌<◌, ◌≤◌, ◌↔◌, IfOk, IfSome, OnOk, OnErr, IsErr, IsErrOf, IsTrue, false, is_some, slice_get};
+ghost use Rattle.std.specs.List.{AllByRecursion};
 ghost use Rattle.std.specs.Option.{option_copied, option_map};
 ghost use Rattle.ax_address.specs.Callsign.{IsCallsign};
+ghost use Rattle.ax_frame.specs.Frames.{IsAddress};
 ghost use Rattle.ax_link.specs.State.{count_end};
 ghost use Rattle.link_table.specs.Calls as calls;
-ghost use Rattle.link_table.specs.Standing.{NotNoMemory};
-ghost use Rattle.node_core.specs.Configs.{IsConfig, new_node};
+ghost use Rattle.link_table.specs.Standing.{NotNoMemory, TableStands};
+ghost use Rattle.node_core.specs.Configs.{IsConfig, hosting_node, new_node, node_of};
 ghost use Rattle.kiss_framing.specs.Stream.{framed};
 ghost use Rattle.node_core.specs.Bounds.{IsWithin};
 ghost use Rattle.node_core.specs.Inputs as inputs;
@@ -17,8 +19,8 @@ ghost use Rattle.node_turns.specs.States.{NodeState};
 use crate::acts::wants_memory;
 use crate::feeding::{take_bytes, take_kiss_frame};
 use crate::station::Station;
-use crate::{ActDone, ActRefusal, NodeConfig, NodeEntry, UserAct, laws};
-use ax_address::{Call, Path};
+use crate::{ActDone, ActRefusal, NodeConfig, NodeEntry, QualityRefusal, UserAct, laws};
+use ax_address::{Address, Call, Path};
 use circuit_l4::EndFacts;
 use circuit_set::CircuitSet;
 use kiss_framing::Deframer;
@@ -31,10 +33,10 @@ use std::marker::Model;
 /// A NET/ROM node over AX.25 links (AX.25 2.2; NET/ROM, Appendix B): a pure machine, which reads no clock and no stream. Its calls are of
 /// three kinds.
 ///
-/// - Inputs, each but `set_path` with its moment in milliseconds: `act` and `set_path` of its user; `kiss_bytes` as they come, in pieces of
-///   any size, or `kiss_frame` where the channel has no bytes; `tick` of time.
+/// - Inputs, each but `set_path` and `set_quality` with its moment in milliseconds: `act` and these two of its user; `kiss_bytes` as they
+///   come, in pieces of any size, or `kiss_frame` where the channel has no bytes; `tick` of time.
 /// - Outputs: `next_frame` and `trace_entry`. After each input both are fetched until they answer None.
-/// - Looks, which change nothing: `has_entries`, `first_entry`, `routes`, `facts`, `circuits`, `is_spent`.
+/// - Looks, which change nothing: `has_entries`, `first_entry`, `routes`, `links`, `facts`, `circuits`, `is_spent`.
 ///
 /// `tick` is called about once a second, since no call tells when something is due. What a node keeps is bounded, as `laws::kept` tells;
 /// once it has answered NoMemory it is spent, and answers that ever after. What each input does stands in `specs/Inputs.antt`.
@@ -82,10 +84,12 @@ impl Node {
     ghost use Rattle.circuit_set.specs.CircuitSets.{SetStands, facts_at};
     ghost use Rattle.circuit_set.specs.Pumps.{at_rest};
     ghost use Rattle.circuit_set.specs.Sets as sets;
-    ghost use Rattle.node_core.specs.Standing.{IsAnswer, entry_of, NodeGoes, NodeStands, circuits_of, entries_left, frames_left};
+    ghost use Rattle.node_core.specs.Standing.{IsAnswer, entry_of, NodeGoes, NodeStands, circuits_of, entries_left, frames_left, links_of};
     ghost use Rattle.node_core.specs.Acts.{act_of};
     ghost use Rattle.node_core.specs.declared.acts.ActRefusal.TheVariants as refusals;
     ghost use Rattle.link_table.specs.declared.path_refusal.PathRefusal.TheVariants as path_refusals;
+    ghost use Rattle.node_core.specs.declared.quality_refusal.QualityRefusal.TheVariants as quality_refusals;
+    ghost use Rattle.node_core.specs.Qualities.{QualityNotNoMemory, quality_answer, with_quality};
 
     /// A node without links, circuits, users and routes, within its bound. The conditions on its settings are those of its parts.
     pub fn new(alloc: Global, config: NodeConfig) -> Result<Node, NoMemory>
@@ -93,8 +97,27 @@ impl Node {
         ensures stands { IfOk result (λ node. NodeStands node (new_node config)) }
         ensures kept { IfOk result IsWithin }
     {
+        Node::start(alloc, config, false)
+    }
+
+    /// The same of a node whose users are served by whoever holds it: the texts at its links stay there until they are taken.
+    pub fn hosting(alloc: Global, config: NodeConfig) -> Result<Node, NoMemory>
+        requires config { IsConfig config }
+        requires prompt { config.prompt ≡ false }
+        ensures stands { IfOk result (λ node. NodeStands node (hosting_node config)) }
+        ensures kept { IfOk result IsWithin }
+    {
+        Node::start(alloc, config, true)
+    }
+
+    /// A node as it starts.
+    fn start(alloc: Global, config: NodeConfig, hosts: bool) -> Result<Node, NoMemory>
+        requires { IsConfig config }
+        ensures stands { IfOk result (λ node. NodeStands node (node_of hosts config)) }
+        ensures kept { IfOk result IsWithin }
+    {
         is_callsign(&config.call);
-        let station = Station::new(alloc, &config)?;
+        let station = Station::new(alloc, &config, hosts)?;
         let node = Node {
             deframer: Deframer::new(),
             station,
@@ -127,6 +150,28 @@ impl Node {
             .carrier_mut()
             .set_path(peer, path);
         self.spent = outcome == Err(PathRefusal::NoMemory);
+        self.keeps_within();
+        outcome
+    }
+
+    /// Sets the quality of the path to a neighbour, in the place of the node's: broadcasts that come from it count with that. It is
+    /// refused, `Full`, where 16 other neighbours have one. A refusal but `NoMemory` changes nothing.
+    pub fn set_quality(&mut self, neighbour: &Call, quality: u8) -> Result<(), QualityRefusal>
+        ensures goes { OnOk result (NodeGoes
+            (λ n. record n { station = with_quality neighbour.now quality n.station })
+            self.old self.new) }
+        ensures answer { QualityNotNoMemory result → (n : NodeState) → NodeStands self.old n
+            → result ≡ quality_answer neighbour.now n.station }
+        ensures err { OnErr result (QualityNotNoMemory result → self.new ≡ self.old) }
+        ensures kept { QualityNotNoMemory result → IsWithin self.new }
+        ensures memory { IsErrOf result quality_refusals.NoMemory ↔ IsTrue self.new.spent }
+        ensures spent { IsTrue self.old.spent → self.new ≡ self.old }
+    {
+        if self.spent {
+            return Err(QualityRefusal::NoMemory);
+        }
+        let outcome = self.station.set_quality(neighbour, quality);
+        self.spent = outcome == Err(QualityRefusal::NoMemory);
         self.keeps_within();
         outcome
     }
@@ -252,6 +297,14 @@ impl Node {
         self.station.set.router().table()
     }
 
+    /// The links: who has set each up, over what it goes, how far it is, whether a text waits at it, and what more it would take.
+    pub fn links(&self) -> &LinkTable
+        ensures value { result.now ≡ links_of self.now }
+        ensures stands { (n : NodeState) → NodeStands self.now n → TableStands result.now n.station.links }
+    {
+        self.station.set.router().carrier()
+    }
+
     /// What an end tells of itself: none where no end of that number is held.
     pub fn facts(&self, id: u64) -> Option<EndFacts>
         ensures { (n : NodeState) → NodeStands self.now n → result ≡ facts_at (sets.end_of id n.station.set.set.ends) }
@@ -293,18 +346,42 @@ fn is_callsign(call: &Call)
     let _ = call.ssid();
 }
 
-/// So a circuit is asked for with a call.
+/// So each repeater is one.
+fn are_callsigns(repeaters: &[Address])
+    ensures { AllByRecursion IsAddress repeaters.now }
+{
+    match repeaters {
+        [] => {}
+        [first, rest @ ..] => {
+            is_callsign(&first.call);
+            are_callsigns(rest)
+        }
+    }
+}
+
+/// So a circuit is asked for with a call, and for one, and a link over calls.
 fn asks_for_call(act: &UserAct<'_>)
     ensures { IsUserAct (act_of act.now) }
 {
     match act {
         UserAct::Connect(dest) => is_callsign(dest),
+        UserAct::ConnectFor { user, dest } => {
+            is_callsign(user);
+            is_callsign(dest)
+        }
+        UserAct::OpenLink { to, path } => {
+            is_callsign(to);
+            are_callsigns(path.as_slice())
+        }
         UserAct::Round
         | UserAct::LinkFail(_)
         | UserAct::Lock { .. }
         | UserAct::Write { .. }
         | UserAct::Take { .. }
-        | UserAct::Close { .. } => {}
+        | UserAct::Close { .. }
+        | UserAct::TakeText(_)
+        | UserAct::SendText { .. }
+        | UserAct::CloseLink(_) => {}
     }
 }
 

@@ -230,10 +230,10 @@ impl Station {
     fn hear(&mut self, source: &Call, alias: &Alias, reported: &[Entry]) -> Result<(), NoMemory>
         requires { length reported.now ≤ 11 }
         ensures { OnOk result (StationGoes (λ n. receiving.take_in
-            (broadcast n.settings.call source.now alias.now n.settings.path_quality reported.now) n)
+            (broadcast n.settings.call source.now alias.now (receiving.quality_to source.now n) reported.now) n)
             self.old self.new) }
     {
-        let path_quality = self.path_quality;
+        let path_quality = self.quality_to(source);
         let table = self.set.router_mut().table_mut();
         match table.heard(source, alias, path_quality, reported) {
             Ok(()) => Ok(()),

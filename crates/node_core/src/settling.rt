@@ -167,12 +167,15 @@ impl Station {
         Ok(true)
     }
 
-    /// Takes the first text that waits at a link and drops it. Whether one waited.
+    /// Takes the first text that waits at a link and drops it. Whether one waited. Where users are hosted it stays.
     fn drop_text(&mut self, now: Moment) -> Result<bool, NoMemory>
         ensures did { IfOk result (Did (λ n. (settling.drop_text now.0 n).did) self.old) }
         ensures goes { OnOk result (StationGoes (λ n. (settling.drop_text now.0 n).after) self.old self.new) }
         ensures drained { OnOk result (IsDrained self.old → IsDrained self.new) }
     {
+        if self.hosts {
+            return Ok(false);
+        }
         match self.first_text() {
             Some(peer) => {
                 let mut text = Message::new();

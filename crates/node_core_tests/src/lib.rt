@@ -6,6 +6,10 @@
 #![tactic(auto)]
 
 #[cfg(test)]
+mod for_user;
+#[cfg(test)]
+mod hosted;
+#[cfg(test)]
 mod hostile;
 #[cfg(test)]
 mod in_use;
@@ -13,6 +17,8 @@ mod in_use;
 mod nodes;
 #[cfg(test)]
 mod prompt;
+#[cfg(test)]
+mod qualities;
 #[cfg(test)]
 mod refused;
 #[cfg(test)]

@@ -130,7 +130,7 @@ fn carry(rt: &impl Abort, from: &mut Node, to: &mut Node) -> usize {
 }
 
 /// Both hear each other until nothing is on the air any more.
-fn flow(rt: &impl Abort, a: &mut Node, b: &mut Node) {
+pub fn flow(rt: &impl Abort, a: &mut Node, b: &mut Node) {
     for _ in 0..100 {
         let went = carry(rt, a, b);
         let came = carry(rt, b, a);
@@ -147,7 +147,7 @@ pub fn done(rt: &impl Abort, node: &mut Node, act: &UserAct) {
 }
 
 /// An act that isn't done, since this hinders it.
-fn refused(rt: &impl Abort, node: &mut Node, act: &UserAct, why: ActRefusal) {
+pub fn refused(rt: &impl Abort, node: &mut Node, act: &UserAct, why: ActRefusal) {
     let refusal = match node.act(act, NOW) {
         Ok(_) => None,
         Err(refusal) => Some(refusal),

@@ -1,7 +1,7 @@
 //! The prompt: the rows of the table of commands, by the texts that a user sees.
 use arrayvec::ArrayVec;
 use ax_address::{Alias, Call};
-use node_prompt::{Action, Prompt, Sight, Trouble, View};
+use node_prompt::{Action, Prompt, Sight, Trouble, View, wanted};
 use route_table::Route;
 use std::process::Abort;
 
@@ -142,6 +142,12 @@ fn a_circuit_is_asked_for(rt: HostRuntime) {
     let bye = prompt().line(b"b");
     assert!(rt; text_of(&bye) == b"ANODE:N0AAA} Bye\r".as_slice());
     assert!(rt; matches!(bye, Action::Bye(_)));
+}
+
+#[test]
+fn routes_are_wanted_by_a_line_about_one_node(rt: HostRuntime) {
+    assert!(rt; wanted(b"n n0qqq-3") == Some(call("N0QQQ-3")));
+    assert!(rt; wanted(b"c n0qqq-3") == None);
 }
 
 #[test]

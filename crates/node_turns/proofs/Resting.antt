@@ -107,7 +107,7 @@ module _ (offers : OffersLeave) (takes : TakesLower) (less : TellsLess) where
   drop_by now n (peer ∷ peers) did = taken offers takes less peer now n.links did
 
   pub drop_falls : (now : ℕ) → Falls (s.drop_text now) (s.payloads)
-  drop_falls now n did = drop_by now n (links.text_peers n.links) did
+  drop_falls now n did = drop_by now n (s.dropped_peers n) did
 
   abbrev pub Fewer : ℕ → State → Type 0
   Fewer bound n = links.payloads n.links ≤ bound
@@ -121,7 +121,7 @@ module _ (offers : OffersLeave) (takes : TakesLower) (less : TellsLess) where
   fewer_by now bound n (peer ∷ peers) few = fewer_if now bound n peer (links.has_text peer n.links) refl few
 
   pub dropped_fewer : (now bound : ℕ) (n : State) → Fewer bound n → Fewer bound (s.drop_texts now n)
-  dropped_fewer now bound n few = kept (s.drop_text now) (s.payloads) (Fewer bound) (λ m f. fewer_by now bound m (links.text_peers m.links) f) n few
+  dropped_fewer now bound n few = kept (s.drop_text now) (s.payloads) (Fewer bound) (λ m f. fewer_by now bound m (s.dropped_peers m) f) n few
 
   pub dropped_some : (now : ℕ) (n : State) → (s.drop_text now n).did ≡ true → links.payloads (s.drop_texts now n).links < links.payloads n.links
   dropped_some now n e =
@@ -135,7 +135,7 @@ module _ (offers : OffersLeave) (takes : TakesLower) (less : TellsLess) where
 
   pub dropped_none : (now : ℕ) (n : State) → (s.drop_text now n).did ≡ false → s.drop_texts now n ≡ n
   dropped_none now n e =
-      ends (s.drop_text now) (s.payloads) (drop_falls now) n e ∙ none_by now n (links.text_peers n.links) e
+      ends (s.drop_text now) (s.payloads) (drop_falls now) n e ∙ none_by now n (s.dropped_peers n) e
 
   -- ---- a turn
 

@@ -26,7 +26,7 @@ drop_set now o n [] e = e
 drop_set now o n (peer ∷ peers) e = e
 
 pub dropped_set : (now : ℕ) (n : State) → (serving.drop_texts now n).set ≡ n.set
-dropped_set now n = kept (serving.drop_text now) (serving.payloads) (λ m. m.set ≡ n.set) (λ m e. drop_set now n m (links.text_peers m.links) e) n refl
+dropped_set now n = kept (serving.drop_text now) (serving.payloads) (λ m. m.set ≡ n.set) (λ m e. drop_set now n m (serving.dropped_peers m) e) n refl
 
 pub none_greeted : (n : State) → None ≡ slice_get (links.text_peers n.links) 0 → serving.greet_links n ≡ n
 none_greeted n = by (links.text_peers n.links)
@@ -34,6 +34,14 @@ none_greeted n = by (links.text_peers n.links)
     by : (peers : List Callsign) → None ≡ slice_get peers 0 → at_sessions (serving.greet_each n.settings.prompt peers) n ≡ n
     by [] e = refl
     by (peer ∷ peers) e = absurd (cc e)
+
+-- where no text waits none is dropped
+pub none_dropped : (n : State) → None ≡ slice_get (links.text_peers n.links) 0 → None ≡ slice_get (serving.dropped_peers n) 0
+none_dropped n none = by n.settings.hosts
+  where
+    by : (b : Bool) → None ≡ slice_get (if b then [] else links.text_peers n.links) 0
+    by true = refl
+    by false = none
 
 module _ (offers : OffersLeave) (takes : TakesLower) (less : TellsLess) where
   -- ---- texts that are dropped
@@ -51,14 +59,14 @@ module _ (offers : OffersLeave) (takes : TakesLower) (less : TellsLess) where
   drop_less now n (peer ∷ peers) e = let x = text_leaves_less peer now n.links e in omega (arith, x)
 
   dropped_most : (now bound : ℕ) (n : State) → work n ≤ bound → work (serving.drop_texts now n) ≤ bound
-  dropped_most now bound n few = kept (serving.drop_text now) serving.payloads (λ m. work m ≤ bound) (λ m f. drop_most now bound m (links.text_peers m.links) f) n few
+  dropped_most now bound n few = kept (serving.drop_text now) serving.payloads (λ m. work m ≤ bound) (λ m f. drop_most now bound m (serving.dropped_peers m) f) n few
 
   texts_dropped : (now : ℕ) (n : State) → ServesAll n (serving.drop_turn now n)
   texts_dropped now n = record {
     most = dropped_most now (work n) n (omega arith);
     less = λ e.
         let m : State = (serving.drop_text now n).after in
-        let one : work m < work n = drop_less now n (links.text_peers n.links) e in
+        let one : work m < work n = drop_less now n (serving.dropped_peers n) e in
         let rest = dropped_most now (work m) m (omega arith) in
         rw (goes_on (serving.drop_text now) serving.payloads (drop_falls offers takes less now) n e) (omega (arith, one, rest));
     idle = λ e f g. (n.sessions, dropped_none offers takes less now n e);
@@ -82,14 +90,23 @@ module _ (offers : OffersLeave) (takes : TakesLower) (less : TellsLess) where
       ∙ (ap (λ (k : ℕ). dropping (serving.serve_each now 0 k n)) (ap length e)
       ∙ (ap (λ (ss : List Session). idle (dropped n ss)) e ∙ ap (λ (ss : List Session). idle (left_with n ss)) (sym e)))
 
-  texts_idle : (now : ℕ) (n : State) → None ≡ slice_get (links.text_peers n.links) 0 → serving.drop_turn now n ≡ idle n
-  texts_idle now n none =
-      let quiet : (serving.drop_text now n).did ≡ false = by (links.text_peers n.links) none in
+  drop_idle : (now : ℕ) (n : State) → None ≡ slice_get (serving.dropped_peers n) 0 → serving.drop_turn now n ≡ idle n
+  drop_idle now n none =
+      let quiet : (serving.drop_text now n).did ≡ false = by (serving.dropped_peers n) none in
       rw (quiet, dropped_none offers takes less now n quiet) refl
     where
       by : (peers : List Callsign) → None ≡ slice_get peers 0 → (serving.drop_first now peers n).did ≡ false
       by [] e = refl
       by (peer ∷ peers) e = absurd (cc e)
+
+  texts_idle : (now : ℕ) (n : State) → None ≡ slice_get (links.text_peers n.links) 0 → serving.drop_turn now n ≡ idle n
+  texts_idle now n none = drop_idle now n (none_dropped n none)
+
+  -- where whoever holds the node serves its users, serving them does nothing
+  pub hosted_idle : (now : ℕ) (n : State) → n.settings.prompt ≡ false → n.settings.hosts ≡ true → serving.serve_users now n ≡ idle n
+  hosted_idle now n unserved hosted =
+      ap (λ b. if b then serving.serve_sessions now n else serving.drop_turn now n) unserved
+      ∙ drop_idle now n (ap (λ b. slice_get (if b then [] else links.text_peers n.links) 0) (sym hosted))
 
   -- where there is no user and no text waits, serving the users does nothing
   pub users_idle : (now : ℕ) (n : State) → n.sessions ≡ [] → None ≡ slice_get (links.text_peers n.links) 0 → serving.serve_users now n ≡ idle n

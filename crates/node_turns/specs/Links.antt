@@ -1,6 +1,8 @@
 -- The links and the circuits of a node, as the machines of `link_table` and of `circuit_set` have them. Each step stands shut here: no
 -- goal about a node sees through it.
 use Rattle.std.specs.Prelude.{ℕ, Bool, is_some, List, [], map, unwrap_or, Result, Option}
+use Rattle.arrayvec.specs.ArrayVec.{ArrayVec}
+use Rattle.ax_address.specs.declared.address.Address.{Address}
 use Rattle.ax_address.specs.Callsign.{Callsign}
 use Rattle.ax_frame.specs.Frames.{Frame}
 use Rattle.l3_datagram.specs.Datagrams.{Datagram, Parcel}
@@ -10,6 +12,7 @@ use Rattle.link_table.specs.Table as fetching
 use Rattle.link_table.specs.Kept as kept
 use Rattle.link_table.specs.Texts as texts
 use Rattle.link_table.specs.Table.{Table}
+use Rattle.link_table.specs.declared.open_refusal.OpenRefusal.{OpenRefusal}
 use Rattle.link_table.specs.declared.text_refusal.TextRefusal.{TextRefusal}
 use Rattle.link_table.specs.declared.written.Written.{Written}
 use Rattle.circuit_set.specs.Pumps as pumps
@@ -52,6 +55,12 @@ text_answer peer text t = texts.text_answer peer text t
 
 unfoldable pub send_text : Callsign → List ℕ → ℕ → Table → Table
 send_text peer text now t = texts.send_text peer text now t
+
+unfoldable pub open_link : Callsign → ArrayVec Address → ℕ → Table → Table
+open_link peer path now t = calls.open_link peer path now t
+
+unfoldable pub open_answer : Callsign → ArrayVec Address → Table → Result (Unit {0}) OpenRefusal
+open_answer peer path t = calls.open_answer peer path t
 
 unfoldable pub close : Callsign → ℕ → Table → Table
 close peer now t = calls.close peer now t

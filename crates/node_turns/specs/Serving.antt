@@ -112,13 +112,17 @@ enter_notices n =
     (at_sessions (hear_links n.links.pending.notices)
     (enter (map (λ (x : Callsign × LinkNotice). Of_link x.0 x.1) n.links.pending.notices) n))
 
--- ---- where no user is served, a text that waits at a link is taken and dropped, so that nothing behind it is held back
+-- ---- where no user is served, a text that waits at a link is taken and dropped, so that nothing behind it is held back; unless the node
+-- hosts users: then it stays
+abbrev pub dropped_peers : State → List Callsign
+dropped_peers n = if n.settings.hosts then [] else links.text_peers n.links
+
 abbrev pub drop_first : ℕ → List Callsign → State → Turn State
 drop_first now [] n = record { did = false; after = n }
 drop_first now (peer ∷ _) n = record { did = links.has_text peer n.links; after = at_links (links.take_text peer now) n }
 
 abbrev pub drop_text : ℕ → State → Turn State
-drop_text now n = drop_first now (links.text_peers n.links) n
+drop_text now n = drop_first now (dropped_peers n) n
 
 abbrev pub payloads : State → ℕ
 payloads n = links.payloads n.links

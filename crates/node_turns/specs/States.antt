@@ -18,7 +18,9 @@ pub record Settings : Type 0 where
   pub alias : Alias
   pub rules : RouteRules
   pub path_quality : ℕ
+  pub qualities : List (Callsign × ℕ)  -- of the paths to these neighbours, in its place
   pub prompt : Bool  -- users are served at a prompt
+  pub hosts : Bool  -- else whoever holds the node serves them: the texts at its links stay until they are taken
   pub interval : ℕ  -- milliseconds from a round to the next; 0 where none is done by itself
 
 -- what is told: something happened at the circuits or at the link with a peer, or the table had no room for a broadcast

@@ -1,15 +1,15 @@
 use Rattle.std.proofs.Common.{[], refl}
-use Rattle.node_core.specs.Configs.{new_node}
-use Rattle.node_core.proofs.node.Node.new.Goals as goal
+use Rattle.node_core.specs.Configs.{node_of}
+use Rattle.node_core.proofs.node.Node.start.Goals as goal
 
 pub invariant_of-node : goal.invariant_of-node
 invariant_of-node c = λ _.
     record {
-      state = new_node c.args.config;
+      state = node_of c.args.hosts c.args.config;
       stands = record { unspent = refl; stream = c.new-2.ensures; station = c.in_ok-station.ensures.holds; told = refl };
       drained = c.in_ok-station.ensures.drained;
       collected = refl;
-      reached = record { config = c.args.config; inputs = []; call = c.is_callsign.ensures; asked = tt; is = refl };
+      reached = record { hosts = c.args.hosts; config = c.args.config; inputs = []; call = c.is_callsign.ensures; asked = tt; is = refl };
     }
 
 pub returns-clause-kept : goal.returns-clause-kept

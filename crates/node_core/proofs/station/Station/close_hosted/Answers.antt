@@ -1,0 +1,14 @@
+use Rattle.link_table.specs.Calls as calls
+use Rattle.std.proofs.Common.{refl}
+use Rattle.node_turns.specs.Links.{close}
+use Rattle.node_core.proofs.Holding.{links_go}
+use Rattle.node_core.proofs.station.Station.close_hosted.Goals as goal
+
+pub returns : goal.returns
+unfolding close
+returns c = λ a n h told. record {
+  answer = refl;
+  stands =
+      links_go (calls.close c.args.peer.now c.args.now.0) c.args.self.now c.router_mut.result.now c.carrier_mut-links.result.now c.close.new.self
+      c.router_mut.ensures.value c.carrier_mut-links.ensures.value c.in_ok-close.ensures.goes n h;
+}
