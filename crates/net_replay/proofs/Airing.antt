@@ -197,6 +197,7 @@ put_one old new line node frame came128 f air e count tells w t =
         nodes = t.trace.nodes;
         mails = t.trace.mails;
         ends = t.trace.ends;
+        allowance = t.trace.allowance;
       };
       channels = t.channels;
       now = t.now;

@@ -5,8 +5,8 @@ use Rattle.std.specs.Option.{option_map}
 use Rattle.std.proofs.lemmas.List.{drop_all, length-map, length-take-le, map-append, take-append-drop, take_more}
 use Rattle.std.proofs.lemmas.Option.{slice_get-map}
 use Rattle.circuit_set.specs.Events as set_events
-use Rattle.circuit_verdict.specs.Causes.{cause_after}
-use Rattle.circuit_verdict.specs.Verdicts.{AreInTime, events_of}
+use Rattle.circuit_verdict.specs.Causes.{Shows, cause_after}
+use Rattle.circuit_verdict.specs.Verdicts.{AreInTime, allows_of, events_of}
 use Rattle.circuit_verdict.specs.Verdicts as told
 use Rattle.circuit_verdict.specs.declared.cause.Cause.{Cause}
 use Rattle.circuit_verdict.specs.declared.event.Event.{Event as Coming}
@@ -60,18 +60,22 @@ pub found_late : (old new : Verdict) (n : Numbered) (cause : Cause)
     → ((ns : List Numbered) → StandsFor old ns → AreInTime (allowance_in old) (events_of ns) → Some cause ≡ cause_after (allowance_in old) (events_of ns) (told.event_of n.event))
     → ((ns : List Numbered) → StandsFor old ns → AreInTime (allowance_in old) (events_of ns)
     → AreInTime (allowance_in old) (events_of ns ++ told.event_of n.event ∷ []) → ⊥)
+    → ((ns : List Numbered) → StandsFor old ns → AreInTime (allowance_in old) (events_of ns) → Shows (allows_of (allowance_in old)) (events_of ns) (told.event_of n.event) cause)
     → Judges old new (judged n ∷ []) (Some cause)
-found_late old new n cause exact late a before h =
+found_late old new n cause exact late shows a before h =
     let own : AreInTime (allowance_in old) (events_of h.events) = subst (λ b. AreInTime b (events_of h.events)) (sym h.allows) h.in_time in
     let here : cause_after (allowance_in old) (events_of h.events) (told.event_of n.event) ≡ Some cause = sym (exact h.events h.stands own) in
     let by : cause_after a (events_of h.events) (told.event_of n.event) ≡ Some cause =
     subst (λ b. cause_after b (events_of h.events) (told.event_of n.event) ≡ Some cause) h.allows here in
     let with_it : AreInTime a (events_of h.events ++ told.event_of n.event ∷ []) → ⊥ =
-    λ t. late h.events h.stands own (subst (λ b. AreInTime b (events_of h.events ++ told.event_of n.event ∷ [])) (sym h.allows) t) in (
+    λ t. late h.events h.stands own (subst (λ b. AreInTime b (events_of h.events ++ told.event_of n.event ∷ [])) (sym h.allows) t) in
+    let shown : Shows (allows_of a) (events_of h.events) (told.event_of n.event) cause =
+    subst (λ b. Shows (allows_of b) (events_of h.events) (told.event_of n.event) cause) h.allows (shows h.events h.stands own) in (
       judged n,
       refl,
       subst (λ es. cause_after a es (told.event_of n.event) ≡ Some cause) (seen_so a old before h) by,
       subst (λ (es : List set_events.Event). AreInTime a (es ++ told.event_of n.event ∷ []) → ⊥) (seen_so a old before h) with_it,
+      subst (λ (es : List set_events.Event). Shows (allows_of a) es (told.event_of n.event) cause) (seen_so a old before h) shown,
     )
 
 -- nothing was told
@@ -126,6 +130,7 @@ comes_late es i x nodes a old new cause h is j taken =
       in_time = subst (AreInTime a) (seen_so a old (events_at nodes (map numbered_of (take i es))) taken) taken.in_time;
       late = late.3;
       found = late.2;
+      shows = late.4;
     }
 
 pub all_in_time : (es : List NumberedEvent) (i : ℕ) (nodes : List Placed) (a : Allowance) (v : Verdict) → length es ≤ i → HasTaken a v (events_at nodes (map numbered_of (take i es)))

@@ -214,6 +214,7 @@ module _ (plan : Plan) (size : ℕ) where
   act_within : (es : List events.Event) (air air2 : List Aired) → Within air air2 → (place : ℕ) (a : Act) → ActCame es air place a → ActCame es air2 place a
   act_within es air air2 w place (sets.Comes d now) c = (c.0, c.1, known_within plan size es air air2 w c.0.call d c.2)
   act_within es air air2 w place (sets.Connect dest now) c = tt
+  act_within es air air2 w place (sets.ConnectFor user dest now) c = tt
   act_within es air air2 w place (sets.Calls id call now) c = tt
   act_within es air air2 w place (sets.Discard id) c = tt
   act_within es air air2 w place (sets.Restart pair more) c = tt
@@ -229,6 +230,7 @@ module _ (plan : Plan) (size : ℕ) where
     act_came : (es : List events.Event) → ((d : List ℕ) → is_borne here.borne here.own d ≡ true → Known plan size es air p.call d) → (a : Act) → WasBorne here a → ActCame es air place a
     act_came es known (sets.Comes d now) b = (p, at, known d b)
     act_came es known (sets.Connect dest now) b = tt
+    act_came es known (sets.ConnectFor user dest now) b = tt
     act_came es known (sets.Calls id call now) b = tt
     act_came es known (sets.Discard id) b = tt
     act_came es known (sets.Restart pair more) b = tt

@@ -9,7 +9,7 @@ use Rattle.circuit_set.specs.Events.{Name}
 use Rattle.circuit_set.specs.Facing.{EndsStay}
 use Rattle.circuit_set.specs.NotedRuns.{Net, begins, end_at, net_run, net_step}
 use Rattle.circuit_set.specs.Runs.{AreStarts, Step, end_named, sets_run}
-use Rattle.circuit_set.specs.Sets.{Act, Calls, Closes, Comes, Connect, Discard, Restart, Takes, Ticks, Writes, Holder, SetState}
+use Rattle.circuit_set.specs.Sets.{Act, Calls, Closes, Comes, Connect, ConnectFor, Discard, Restart, Takes, Ticks, Writes, Holder, SetState}
 use Rattle.circuit_set.specs.Writings.{EndsWroteByWrites, act_writes, called_writes, step_writes, wrote_of}
 use Rattle.network_file.specs.declared.plan.declarations.Declaration.{Declaration}
 use Rattle.node_core.specs.Runs.{steps_at, writes_in}
@@ -48,6 +48,7 @@ are_silent (Calls id Ticks now ∷ acts) e = (tt, are_silent acts e)
 are_silent (Calls id Closes now ∷ acts) e = (tt, are_silent acts e)
 are_silent (Calls id Takes now ∷ acts) e = (tt, are_silent acts e)
 are_silent (Connect dest now ∷ acts) e = (tt, are_silent acts e)
+are_silent (ConnectFor user dest now ∷ acts) e = (tt, are_silent acts e)
 are_silent (Comes datagram now ∷ acts) e = (tt, are_silent acts e)
 are_silent (Discard id ∷ acts) e = (tt, are_silent acts e)
 are_silent (Restart pair more ∷ acts) e = (tt, are_silent acts e)
@@ -58,6 +59,7 @@ silent_only id message (Calls i Ticks now) s = tt
 silent_only id message (Calls i Closes now) s = tt
 silent_only id message (Calls i Takes now) s = tt
 silent_only id message (Connect dest now) s = tt
+silent_only id message (ConnectFor user dest now) s = tt
 silent_only id message (Comes datagram now) s = tt
 silent_only id message (Discard i) s = tt
 silent_only id message (Restart pair more) s = tt
@@ -77,6 +79,7 @@ one_only id now message (Calls i Ticks moment ∷ acts) e = (tt, one_only id now
 one_only id now message (Calls i Closes moment ∷ acts) e = (tt, one_only id now message acts e)
 one_only id now message (Calls i Takes moment ∷ acts) e = (tt, one_only id now message acts e)
 one_only id now message (Connect dest moment ∷ acts) e = (tt, one_only id now message acts e)
+one_only id now message (ConnectFor user dest moment ∷ acts) e = (tt, one_only id now message acts e)
 one_only id now message (Comes datagram moment ∷ acts) e = (tt, one_only id now message acts e)
 one_only id now message (Discard i ∷ acts) e = (tt, one_only id now message acts e)
 one_only id now message (Restart pair more ∷ acts) e = (tt, one_only id now message acts e)
@@ -130,6 +133,7 @@ module _ (wrote_law : EndsWroteByWrites) (stay : EndsStay) (first : List SetStat
     none_written (Calls i call now) id = pick (nat_eq i id) [] [] tt tt
     none_written (Comes datagram now) id = tt
     none_written (Connect dest now) id = tt
+    none_written (ConnectFor user dest now) id = tt
     none_written (Discard i) id = tt
     none_written (Restart pair more) id = tt
 
@@ -156,6 +160,7 @@ module _ (wrote_law : EndsWroteByWrites) (stay : EndsStay) (first : List SetStat
     act_known (Calls id Takes now) known = pick Q (nat_eq id x.id) (cond h.gone [] []) [] (pick Q h.gone [] [] tt tt) tt
     act_known (Comes datagram now) known = tt
     act_known (Connect dest now) known = tt
+    act_known (ConnectFor user dest now) known = tt
     act_known (Discard id) known = tt
     act_known (Restart pair more) known = tt
 
@@ -199,6 +204,7 @@ module _ (wrote_law : EndsWroteByWrites) (stay : EndsStay) (first : List SetStat
   silent_known ws steps n (Calls id Takes now) s = tt
   silent_known ws steps n (Comes datagram now) s = tt
   silent_known ws steps n (Connect dest now) s = tt
+  silent_known ws steps n (ConnectFor user dest now) s = tt
   silent_known ws steps n (Discard id) s = tt
   silent_known ws steps n (Restart pair more) s = tt
 
@@ -231,6 +237,7 @@ module _ (wrote_law : EndsWroteByWrites) (stay : EndsStay) (first : List SetStat
   only_known ws n id m d to here w steps (Calls i Takes now) l o = tt
   only_known ws n id m d to here w steps (Comes datagram now) l o = tt
   only_known ws n id m d to here w steps (Connect dest now) l o = tt
+  only_known ws n id m d to here w steps (ConnectFor user dest now) l o = tt
   only_known ws n id m d to here w steps (Discard i) l o = tt
   only_known ws n id m d to here w steps (Restart pair more) l o = tt
 
@@ -275,6 +282,7 @@ module _ (wrote_law : EndsWroteByWrites) (stay : EndsStay) (first : List SetStat
     says_step m steps (Calls id Takes now) none r w = quiet_step keeps m steps n (Calls id Takes now) tt r w
     says_step m steps (Comes datagram now) none r w = quiet_step keeps m steps n (Comes datagram now) tt r w
     says_step m steps (Connect dest now) none r w = quiet_step keeps m steps n (Connect dest now) tt r w
+    says_step m steps (ConnectFor user dest now) none r w = quiet_step keeps m steps n (ConnectFor user dest now) tt r w
     says_step m steps (Discard id) none r w = quiet_step keeps m steps n (Discard id) tt r w
     says_step m steps (Restart pair more) none r w = quiet_step keeps m steps n (Restart pair more) tt r w
 

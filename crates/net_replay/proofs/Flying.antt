@@ -221,6 +221,11 @@ module _ (plan : Plan) (size : ℕ) (apart : AreApart (names (new_nodes plan))) 
   plain_go line at (acts.LinkFail peer) w i = reach_goes line at (worlds.Act (acts.LinkFail peer)) w (λ ds p air told f. (acts_carry (here w.air p) ds w.now (acts.LinkFail peer) p.state tt tt told f.0, f.1))
   plain_go line at (acts.Lock dest alias neighbour quality) w i = absurd i
   plain_go line at (acts.Connect dest) w i = absurd i
+  plain_go line at (acts.ConnectFor user dest) w i = absurd i
+  plain_go line at (acts.TakeText peer) w i = absurd i
+  plain_go line at (acts.SendText to text) w i = absurd i
+  plain_go line at (acts.OpenLink to path) w i = absurd i
+  plain_go line at (acts.CloseLink peer) w i = absurd i
   plain_go line at (acts.Write id message) w i = reach_goes line at (worlds.Act (acts.Write id message)) w (λ ds p air told f. (acts_carry (here w.air p) ds w.now (acts.Write id message) p.state tt tt told f.0, f.1))
   plain_go line at (acts.Take id) w i = reach_goes line at (worlds.Act (acts.Take id)) w (λ ds p air told f. (acts_carry (here w.air p) ds w.now (acts.Take id) p.state tt tt told f.0, f.1))
   plain_go line at (acts.Close id) w i = reach_goes line at (worlds.Act (acts.Close id)) w (λ ds p air told f. (acts_carry (here w.air p) ds w.now (acts.Close id) p.state tt tt told f.0, f.1))
@@ -335,7 +340,7 @@ module _ (plan : Plan) (size : ℕ) (apart : AreApart (names (new_nodes plan))) 
   started_flies air ds d pair first s =
       let n : NodeState = new_node (config_of plan.settings d pair first) in
       let vs : List Via = filter (is_via_of d.node) plan.vias in (
-        vias_carried (here air (placed plan d pair first)) ds vs n (kept_by (λ (v : Via). AllByRecursion IsCall v.repeaters.items) (is_via_of d.node) plan.vias vias) (further.starts (here air (placed plan d pair first)) ds (config_of plan.settings d pair first) refl s.0 modulus s.1),
+        vias_carried (here air (placed plan d pair first)) ds vs n (kept_by (λ (v : Via). AllByRecursion IsCall v.repeaters.items) (is_via_of d.node) plan.vias vias) (further.starts (here air (placed plan d pair first)) ds false (config_of plan.settings d pair first) refl s.0 modulus s.1),
         subst IsRested (sym (vias_stream vs n)) refl,
       )
 

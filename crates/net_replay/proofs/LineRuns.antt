@@ -142,6 +142,11 @@ module _ (plan : Plan) (apart : AreApart (names (new_nodes plan))) (are_steps : 
   plain_act (acts.LinkFail peer) i = tt
   plain_act (acts.Lock dest alias neighbour quality) i = tt
   plain_act (acts.Connect dest) i = absurd i
+  plain_act (acts.ConnectFor user dest) i = absurd i
+  plain_act (acts.TakeText peer) i = absurd i
+  plain_act (acts.SendText to text) i = absurd i
+  plain_act (acts.OpenLink to path) i = absurd i
+  plain_act (acts.CloseLink peer) i = absurd i
   plain_act (acts.Write id message) i = tt
   plain_act (acts.Take id) i = tt
   plain_act (acts.Close id) i = tt

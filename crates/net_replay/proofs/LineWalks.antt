@@ -64,6 +64,11 @@ quiet_wrote node end nth (suc more) = tt
 abbrev pub IsPlain : UserAct → Type 0
 IsPlain (acts.Lock dest alias neighbour quality) = ⊥
 IsPlain (acts.Connect dest) = ⊥
+IsPlain (acts.ConnectFor user dest) = ⊥
+IsPlain (acts.TakeText peer) = ⊥
+IsPlain (acts.SendText to text) = ⊥
+IsPlain (acts.OpenLink to path) = ⊥
+IsPlain (acts.CloseLink peer) = ⊥
 IsPlain act = Unit {0}
 
 -- acts that write nothing besides
@@ -76,6 +81,11 @@ mute_plain acts.Round i = i
 mute_plain (acts.LinkFail peer) i = i
 mute_plain (acts.Lock dest alias neighbour quality) i = i
 mute_plain (acts.Connect dest) i = i
+mute_plain (acts.ConnectFor user dest) i = i
+mute_plain (acts.TakeText peer) i = i
+mute_plain (acts.SendText to text) i = i
+mute_plain (acts.OpenLink to path) i = i
+mute_plain (acts.CloseLink peer) i = i
 mute_plain (acts.Write id message) i = absurd i
 mute_plain (acts.Take id) i = i
 mute_plain (acts.Close id) i = i

@@ -1,9 +1,10 @@
--- In a network of which no datagram and no pair comes back too late mail is stored once, at each line.
-use Rattle.std.proofs.Common.{◌≡◌, ◌∙◌, ℕ, zero, suc, refl, sym, ap, subst, arith, List, [], ◌∷◌, ◌++◌, map, Bool, true, false, cond}
-use Rattle.std.specs.Prelude.{◌&&◌, ◌==◌, slice_get, Some, None, is_some}
+-- In a network of which no datagram and no pair comes back too late mail is stored once, at each line and within a turn of an agent.
+use Rattle.std.proofs.Common.{◌≡◌, ◌≤◌, ◌∙◌, ℕ, zero, suc, refl, sym, ap, subst, arith, List, [], ◌∷◌, ◌++◌, append-nil, map, Bool, true, false, cond}
+use Rattle.std.specs.Prelude.{◌&&◌, ◌==◌, slice_get, Some, None, Ok, is_some}
 use Rattle.std.specs.List.{AllByRecursion}
 use Rattle.ax_address.specs.Callsign.{Callsign, same_call}
 use Rattle.circuit_set.specs.ByBook.{FreshByBook, PartnersByBook, TimelyBy128, TimelyByBook}
+use Rattle.circuit_set.specs.CircuitSets.{held_ids}
 use Rattle.circuit_set.specs.Facing.{EndsStay, PartnersFace}
 use Rattle.circuit_set.specs.NotedRuns.{NarrowIsTimely}
 use Rattle.circuit_set.specs.Pairs.{IsPair}
@@ -18,17 +19,19 @@ use Rattle.network_file.specs.declared.plan.instructions.Instruction.{Instructio
 use Rattle.network_file.specs.declared.plan.instructions.Instruction.TheVariants as instructions
 use Rattle.network_file.specs.declared.plan.keys.Key.TheVariants.{Mail, Prompt}
 use Rattle.network_file.specs.Laws.{CallsAreCalls, CallsDeclaredOnce, DeclaredOnce, HasCalls, IsCall, NamesCalls, NoMailAtPrompts, SettingsFit}
+use Rattle.network_file.specs.Networks.{network_of}
 use Rattle.network_file.specs.Plan.{Plan}
 use Rattle.network_file.specs.Keys.{value_of}
 use Rattle.node_core.specs.Runs.{ActsRun, BytesRun, InputsAreSteps, TicksRun}
 use Rattle.node_core.specs.Acts as acts
 use Rattle.node_mail.specs.Lists.{Lists, nothing_kept}
 use Rattle.node_mail.specs.Runs.{HoldsMailOnce, MailIsStoredOnce, begin}
-use Rattle.net_replay.specs.Promises.{IsInstruction, IsRunOf, IsSound, NetworksAreSound, RunsThrough, first_sets, set_of, InTimeMailIsOnce, MailOnceNow}
+use Rattle.net_replay.specs.Promises.{IsInstruction, IsRunOf, IsSound, NetworksAreSound, RunsThrough, first_sets, set_of, InTimeMailIsOnce, MailOnceNow, MailOnceThroughout, while_taking}
+use Rattle.net_replay.specs.Circuits.{IsVerdictOn}
 use Rattle.net_replay.specs.Lines.{do_lines, world}
-use Rattle.net_replay.specs.Mailing.{mail_at, mail_in}
+use Rattle.net_replay.specs.Mailing.{ends_here, mail, mail_at, mail_in}
 use Rattle.net_replay.specs.Starting.{Placed, by_number, new_mail, new_nodes, new_placed}
-use Rattle.net_replay.specs.World.{World, start}
+use Rattle.net_replay.specs.World.{World, place_of_node, start}
 use Rattle.net_replay.proofs.Containing.{AreApart, names}
 use Rattle.net_replay.proofs.LineRuns as lines
 use Rattle.net_replay.proofs.LineWalks.{LineMay, LineMoves, lines_go}
@@ -37,7 +40,7 @@ use Rattle.net_replay.proofs.MailMoves.{Goes, Holds, InTime, Mails, NodeKeeps, h
 use Rattle.net_replay.proofs.MailOrder.{InOrder, new_order}
 use Rattle.net_replay.proofs.MailRuns.{begins}
 use Rattle.net_replay.proofs.MailTurns as turns
-use Rattle.net_replay.proofs.MailWalks.{TurnMoves}
+use Rattle.net_replay.proofs.MailWalks.{TurnMoves, taking_goes, taking_on}
 use Rattle.net_replay.proofs.Moving.{set_is}
 use Rattle.net_replay.proofs.Promising as promising
 use Rattle.net_replay.proofs.Returned.{call_itself, calls_differ}
@@ -174,42 +177,117 @@ module _ (plan : Plan) (apart : AreApart (names (new_nodes plan))) (are_steps : 
 
   -- ---- the law, of a file
 
-  -- the lines of a front, and those behind it
-  pub record Walked (done later : List NumberedInstruction) : Type 0 where
-    pub runs : RunsThrough plan done later
-    pub holds : InTime plan apart are_steps bytes ticks acts_run wrote_law stay starts calls prompts (runs.steps ++ runs.then) → Held runs.steps (do_lines plan done (start plan))
+  -- steps that lead to the last line, and to a moment before it
+  pub record Walked (v : World) : Type 0 where
+    pub runs : RunsThrough plan plan.instructions []
+    pub steps : List Step
+    pub holds : InTime plan apart are_steps bytes ticks acts_run wrote_law stay starts calls prompts (runs.steps ++ runs.then) → Held steps v
 
-  walked : (done later : List NumberedInstruction) → plan.instructions ≡ done ++ later → IsSound plan → HasCalls plan → Walked done later
+  walked : (v : World) → Goes_on (start plan) v → Goes_on v (world plan) → Walked v
   unfolding world
-  walked done later is sound named =
-      let parts = lines.front_all plan apart are_steps bytes ticks acts_run done later (λ (l : NumberedInstruction). IsInstruction l.instruction)
-      (subst (AllByRecursion (λ (l : NumberedInstruction). IsInstruction l.instruction)) is sound.instructions) in
-      let names_of = lines.front_all plan apart are_steps bytes ticks acts_run done later (λ (l : NumberedInstruction). NamesCalls l.instruction)
-      (subst (AllByRecursion (λ (l : NumberedInstruction). NamesCalls l.instruction)) is named.lines) in
-      let w : World = do_lines plan done (start plan) in
-      let a : Goes plan apart are_steps bytes ticks acts_run wrote_law stay starts calls prompts [] (start plan) w =
-      lines_go plan AnyCall AnyCall IsCall IsPair Goes_on line_moves done (start plan) (lines_may done parts.0 names_of.0) [] (lines.start_contains plan apart are_steps bytes ticks acts_run) in
-      let b = lines.lead_lines plan apart are_steps bytes ticks acts_run later w parts.1 a.0 a.1 in
+  walked v to on =
+      let a : Goes plan apart are_steps bytes ticks acts_run wrote_law stay starts calls prompts [] (start plan) v = to [] (lines.start_contains plan apart are_steps bytes ticks acts_run) in
+      let b : Goes plan apart are_steps bytes ticks acts_run wrote_law stay starts calls prompts a.0 v (world plan) = on a.0 a.1 in
+      let whole : IsRunOf plan (a.0 ++ b.0) (world plan) = lines.is_run plan apart are_steps bytes ticks acts_run (a.0 ++ b.0) (world plan) b.1 in
+      let ended : (a.0 ++ b.0) ++ [] ≡ a.0 ++ b.0 = append-nil (a.0 ++ b.0) in
       record {
-        runs = record {
-          steps = a.0;
-          then = b.0;
-          is = lines.is_run plan apart are_steps bytes ticks acts_run a.0 w a.1;
-          all = subst (λ (x : World). IsRunOf plan (a.0 ++ b.0) x) (sym (ap (λ ls. do_lines plan ls (start plan)) is ∙ lines.lines_append plan apart are_steps bytes ticks acts_run done later (start plan)))
-              (lines.is_run plan apart are_steps bytes ticks acts_run (a.0 ++ b.0) (do_lines plan later w) b.1);
-        };
-        holds = λ t. a.2 b.0 t start_holds;
+        runs = record { steps = a.0 ++ b.0; then = []; is = whole; all = subst (λ ss. IsRunOf plan ss (world plan)) (sym ended) whole };
+        steps = a.0;
+        holds = λ t. a.2 b.0 (subst (InTime plan apart are_steps bytes ticks acts_run wrote_law stay starts calls prompts) ended t) start_holds;
+      }
+
+  -- ---- to a line, and from it on
+
+  abbrev May : NumberedInstruction → Type 0
+  May l = LineMay AnyCall AnyCall IsCall IsPair l.instruction
+
+  may : IsSound plan → HasCalls plan → AllByRecursion May plan.instructions
+  may sound named = lines_may plan.instructions sound.instructions named.lines
+
+  on_from : (ls : List NumberedInstruction) (w : World) → AllByRecursion May ls → Goes_on w (do_lines plan ls w)
+  on_from ls w all = lines_go plan AnyCall AnyCall IsCall IsPair Goes_on line_moves ls w all
+
+  -- the last line is behind those that come later
+  last_is : (done later : List NumberedInstruction) → plan.instructions ≡ done ++ later → do_lines plan later (do_lines plan done (start plan)) ≡ world plan
+  unfolding world
+  last_is done later is = sym (ap (λ ls. do_lines plan ls (start plan)) is ∙ lines.lines_append plan apart are_steps bytes ticks acts_run done later (start plan))
+
+  module _ (all_may : AllByRecursion May plan.instructions) (done later : List NumberedInstruction) (is : plan.instructions ≡ done ++ later) where
+    parts : AllByRecursion May done × AllByRecursion May later
+    parts = lines.front_all plan apart are_steps bytes ticks acts_run done later May (subst (AllByRecursion May) is all_may)
+
+    to_line : Goes_on (start plan) (do_lines plan done (start plan))
+    to_line = on_from done (start plan) parts.0
+
+    from_line : Goes_on (do_lines plan done (start plan)) (world plan)
+    from_line = subst (Goes_on (do_lines plan done (start plan))) (last_is done later is) (on_from later (do_lines plan done (start plan)) parts.1)
+
+  -- ---- within a turn of an agent
+
+  module _ (all_may : AllByRecursion May plan.instructions) (done later : List NumberedInstruction) (line node : ℕ)
+      (is : plan.instructions ≡ done ++ record { line = line; instruction = instructions.Mail node } ∷ later) (passed rest : List ℕ) (id n : ℕ) where
+    abbrev before : World
+    before = do_lines plan done (start plan)
+
+    abbrev behind : World
+    behind = mail line node before
+
+    abbrev moment : World
+    moment = while_taking line node passed id n before
+
+    to_moment : Goes_on (start plan) moment
+    to_moment =
+        moves.follows plan apart are_steps bytes ticks acts_run wrote_law stay starts calls prompts (start plan) before moment
+        (to_line all_may done (record { line = line; instruction = instructions.Mail node } ∷ later) is) (taking_goes IsCall Goes_on turn_moves line node before passed id n)
+
+    from_moment : is_some (mail_at (place_of_node node before.nodes) before) ≡ true → held_ids (ends_here (place_of_node node before.nodes) before) ≡ passed ++ id ∷ rest → n ≤ 100000 → Goes_on moment (world plan)
+    from_moment some e h =
+        let more = (parts all_may done (record { line = line; instruction = instructions.Mail node } ∷ later) is).1 in
+        let ended : Goes_on behind (world plan) =
+        subst (Goes_on behind) (last_is done (record { line = line; instruction = instructions.Mail node } ∷ later) is) (on_from later behind more.1) in
+        moves.follows plan apart are_steps bytes ticks acts_run wrote_law stay starts calls prompts moment behind (world plan)
+        (taking_on IsCall Goes_on turn_moves line node before passed rest id n some e h) ended
+
+module _ (are_steps : InputsAreSteps) (bytes : BytesRun) (ticks : TicksRun) (acts_run : ActsRun) (wrote_law : EndsWroteByWrites) (stay : EndsStay) (partners : PartnersByBook) (fresh_law : FreshByBook) (by_window : TimelyByBook)
+    (by_128 : TimelyBy128) (face : PartnersFace) (safe : CircuitsSafe) (last : PartnersLast) (narrow : NarrowIsTimely) (sounds : NetworksAreSound) (declared : DeclaredOnce) (own_calls : CallsDeclaredOnce) (fit : SettingsFit)
+    (prompts : NoMailAtPrompts) (calls_are : CallsAreCalls) (law : MailIsStoredOnce) (file : List ℕ) (plan : Plan) (e : network_of file ≡ Ok plan) (verdict : IsVerdictOn plan (world plan) None) where
+  sound : IsSound plan
+  sound = sounds file plan e
+
+  apart : AreApart (names (new_nodes plan))
+  apart = lines.nodes_apart plan (declared file plan e)
+
+  calls : CallsDiffer (first_sets plan)
+  calls = calls_differ plan (own_calls file plan e) apart
+
+  quiet : (node : ℕ) → ((value_of plan.settings node Mail == 1) && (value_of plan.settings node Prompt == 1)) ≡ false
+  quiet node = prompts file plan node e
+
+  abbrev Leads : World → World → Type 0
+  Leads w v = Goes_on plan apart are_steps bytes ticks acts_run wrote_law stay sound.starts calls quiet partners fresh_law face safe last w v
+
+  -- at a moment on the way
+  once_at : (v : World) → Leads (start plan) v → Leads v (world plan) → MailOnceNow v
+  once_at v to on =
+      let walk : Walked plan apart are_steps bytes ticks acts_run wrote_law stay sound.starts calls quiet partners fresh_law face safe last v =
+      walked plan apart are_steps bytes ticks acts_run wrote_law stay sound.starts calls quiet partners fresh_law face safe last v to on in
+      let time = promising.in_time_run fresh_law by_window by_128 sounds narrow fit file plan e verdict plan.instructions [] walk.runs in
+      once_now plan apart are_steps bytes ticks acts_run wrote_law stay sound.starts calls quiet partners fresh_law face safe last law walk.steps v
+      (walk.holds (record { are = walk.runs.all.are; timely = time.0; fresh = time.1 }))
+
+  once : MailOnceThroughout plan
+  once =
+      let all = may plan apart are_steps bytes ticks acts_run wrote_law stay sound.starts calls quiet partners fresh_law face safe last sound (calls_are file plan e) in
+      record {
+        lines = λ done later is. once_at (do_lines plan done (start plan))
+            (to_line plan apart are_steps bytes ticks acts_run wrote_law stay sound.starts calls quiet partners fresh_law face safe last all done later is)
+            (from_line plan apart are_steps bytes ticks acts_run wrote_law stay sound.starts calls quiet partners fresh_law face safe last all done later is);
+        within = λ done later line node is some passed rest id n ids few. once_at (while_taking line node passed id n (do_lines plan done (start plan)))
+            (to_moment plan apart are_steps bytes ticks acts_run wrote_law stay sound.starts calls quiet partners fresh_law face safe last all done later line node is passed rest id n)
+            (from_moment plan apart are_steps bytes ticks acts_run wrote_law stay sound.starts calls quiet partners fresh_law face safe last all done later line node is passed rest id n some ids few);
       }
 
 pub in_time_mail_is_once : InputsAreSteps → BytesRun → TicksRun → ActsRun → EndsWroteByWrites → EndsStay → PartnersByBook → FreshByBook → TimelyByBook → TimelyBy128 → PartnersFace → CircuitsSafe → PartnersLast → NarrowIsTimely
     → NetworksAreSound → DeclaredOnce → CallsDeclaredOnce → SettingsFit → NoMailAtPrompts → CallsAreCalls → MailIsStoredOnce → InTimeMailIsOnce
-in_time_mail_is_once are_steps bytes ticks acts_run wrote_law stay partners fresh_law by_window by_128 face safe last narrow sounds declared own_calls fit prompts calls_are law file plan e v done later is =
-    let sound : IsSound plan = sounds file plan e in
-    let apart : AreApart (names (new_nodes plan)) = lines.nodes_apart plan (declared file plan e) in
-    let calls : CallsDiffer (first_sets plan) = calls_differ plan (own_calls file plan e) apart in
-    let quiet : (node : ℕ) → ((value_of plan.settings node Mail == 1) && (value_of plan.settings node Prompt == 1)) ≡ false = λ node. prompts file plan node e in
-    let walk : Walked plan apart are_steps bytes ticks acts_run wrote_law stay sound.starts calls quiet partners fresh_law face safe last done later =
-    walked plan apart are_steps bytes ticks acts_run wrote_law stay sound.starts calls quiet partners fresh_law face safe last done later is sound (calls_are file plan e) in
-    let time = promising.in_time_run fresh_law by_window by_128 sounds narrow fit file plan e v done later walk.runs in
-    once_now plan apart are_steps bytes ticks acts_run wrote_law stay sound.starts calls quiet partners fresh_law face safe last law walk.runs.steps (do_lines plan done (start plan))
-    (walk.holds (record { are = walk.runs.all.are; timely = time.0; fresh = time.1 }))
+in_time_mail_is_once are_steps bytes ticks acts_run wrote_law stay partners fresh_law by_window by_128 face safe last narrow sounds declared own_calls fit prompts calls_are law file plan e v =
+    once are_steps bytes ticks acts_run wrote_law stay partners fresh_law by_window by_128 face safe last narrow sounds declared own_calls fit prompts calls_are law file plan e v

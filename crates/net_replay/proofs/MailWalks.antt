@@ -1,5 +1,5 @@
 -- What is so from one world to another, and behind one another, is so of posts and of turns of an agent, where it is so of each move that they are made of.
-use Rattle.std.proofs.Common.{◌≡◌, ℕ, zero, suc, refl, List, [], ◌∷◌, ◌++◌, Bool, true, false, cond}
+use Rattle.std.proofs.Common.{◌≡◌, ◌≤◌, ◌∙◌, ℕ, zero, suc, refl, sym, ap, subst, arith, List, [], ◌∷◌, ◌++◌, Bool, true, false, cond}
 use Rattle.std.specs.Prelude.{Option, Some, None, Result, Ok, Err, is_some, length, slice_get}
 use Rattle.std.specs.List.{AllByRecursion}
 use Rattle.ax_address.specs.Callsign.{Callsign}
@@ -21,6 +21,7 @@ use Rattle.net_replay.specs.declared.refusals.LineRefusal.TheVariants.{NoMail, S
 use Rattle.net_replay.specs.Events as events
 use Rattle.net_replay.specs.Events.{Event}
 use Rattle.net_replay.specs.Mailing.{Agent, dest_of, ends_here, heard_by, heard_events, input, is_agents, mail, mail_at, may_write, offer, offer_all, offer_at, offer_octets, post, post_by, posted_events, take_at, take_from, turn_by, unless_agents, waits, with_mail, write_answer_to, write_if_taken}
+use Rattle.net_replay.specs.Promises.{while_taking}
 use Rattle.net_replay.specs.Refused.{of_post, refusal_events}
 use Rattle.net_replay.specs.Starting.{Placed}
 use Rattle.net_replay.specs.World as worlds
@@ -240,23 +241,86 @@ module _ (Users : Callsign → Type 0) (P : World → World → Type 0) (k : Tur
     offer_at_goes (id ∷ ids) w =
         let v : World = offer_all line node at id w in k.follows w v (offer_at line node at ids v) (k.offers line node at id w) (offer_at_goes ids v)
 
+    -- behind the takings
+    abbrev rest_of : Agent → World
+    rest_of taken = put line at false (tell line taken.answers (offer_at line node at (held_ids (ends_here at taken.world)) taken.world))
+
+    rest_goes : (taken : Agent) → AllByRecursion IsQuiet taken.answers → P taken.world (rest_of taken)
+    rest_goes taken quiet =
+        let v : World = offer_at line node at (held_ids (ends_here at taken.world)) taken.world in
+        let u : World = tell line taken.answers v in
+        let x : World = put line at false u in
+        k.follows taken.world v x (offer_at_goes (held_ids (ends_here at taken.world)) taken.world) (k.follows v u x (k.tells line taken.answers v quiet) (k.puts line at u))
+
     turn_goes : (b : Bool) (w : World) → P w (turn_by line node at b w)
     turn_goes false w = k.tells line (events.Refused NoMail ∷ []) w (tt, tt)
     turn_goes true w =
         let start : Agent = record { world = w; answers = [] } in
         let taken : Agent = take_at line node at (held_ids (ends_here at w)) start in
         let first : Goes start taken = take_at_goes (held_ids (ends_here at w)) start in
-        let v : World = offer_at line node at (held_ids (ends_here at taken.world)) taken.world in
-        let u : World = tell line taken.answers v in
-        let x : World = put line at false u in
-        k.follows w taken.world x (first.0)
-        (k.follows taken.world v x (offer_at_goes (held_ids (ends_here at taken.world)) taken.world)
-        (k.follows v u x (k.tells line taken.answers v (first.1 tt)) (k.puts line at u)))
+        k.follows w taken.world (rest_of taken) first.0 (rest_goes taken (first.1 tt))
+
+    -- ---- from a moment on at which some were taken
+
+    took_on : (id : ℕ) (from : Option Callsign) (r : Result ActDone ActRefusal) (one more : Agent → Agent) (b : Agent) → ((c : Agent) → Goes (one c) (more c))
+        → Goes (took_by line node at id from r one b) (took_by line node at id from r more b)
+    took_on id from (Ok (Took message)) one more b f = f (heard_by line node at id message from (mail_at at b.world) b)
+    took_on id from (Ok Done) one more b f = (k.still b.world, λ q. q)
+    took_on id from (Ok (Made made)) one more b f = (k.still b.world, λ q. q)
+    took_on id from (Err why) one more b f = (k.still b.world, λ q. q)
+
+    both_on : (b : Bool) (a x y : Agent) → Goes x y → Goes (cond b x a) (cond b y a)
+    both_on true a x y f = f
+    both_on false a x y f = (k.still a.world, λ q. q)
+
+    more_taken : (id n m : ℕ) (a : Agent) → n ≤ m → Goes (take_from line node at id n a) (take_from line node at id m a)
+    unfolding take_from
+    more_taken id zero m a h = takes_go id m a
+    more_taken id (suc n) zero a h = absurd (omega (arith, h))
+    more_taken id (suc n) (suc m) a h =
+        let w : World = put line at false a.world in
+        let b : Agent = record a { world = reach line at (worlds.Act (acts.Take id)) w } in
+        both_on (waits (take_answer (end_of id (ends_here at a.world)))) a (take_then line node at id (take_from line node at id n) a) (take_then line node at id (take_from line node at id m) a)
+        (took_on id (partner_at (end_of id (ends_here at a.world))) (answer at (acts.Take id) w) (take_from line node at id n) (take_from line node at id m) b (λ c. more_taken id n m c (omega (arith, h))))
+
+    take_at_append : (xs ys : List ℕ) (a : Agent) → take_at line node at (xs ++ ys) a ≡ take_at line node at ys (take_at line node at xs a)
+    take_at_append [] ys a = refl
+    take_at_append (x ∷ xs) ys a = take_at_append xs ys (take_from line node at x 100000 a)
+
+    some_go : (w : World) (passed : List ℕ) (id n : ℕ) → P w (take_from line node at id n (take_at line node at passed (record { world = w; answers = [] }))).world
+    some_go w passed id n =
+        let start : Agent = record { world = w; answers = [] } in
+        let before : Agent = take_at line node at passed start in
+        k.follows w before.world (take_from line node at id n before).world (take_at_goes passed start).0 (takes_go id n before).0
+
+    some_on : (w : World) (passed rest : List ℕ) (id n : ℕ) → held_ids (ends_here at w) ≡ passed ++ id ∷ rest → n ≤ 100000
+        → P (take_from line node at id n (take_at line node at passed (record { world = w; answers = [] }))).world (turn_by line node at true w)
+    some_on w passed rest id n e h =
+        let start : Agent = record { world = w; answers = [] } in
+        let before : Agent = take_at line node at passed start in
+        let some : Agent = take_from line node at id n before in
+        let all : Agent = take_from line node at id 100000 before in
+        let taken : Agent = take_at line node at rest all in
+        let joined : take_at line node at (passed ++ id ∷ rest) start ≡ taken = take_at_append passed (id ∷ rest) start in
+        let same : take_at line node at (held_ids (ends_here at w)) start ≡ taken = ap (λ ids. take_at line node at ids start) e ∙ joined in
+        let quiet : AllByRecursion IsQuiet taken.answers = subst (λ (t : Agent). AllByRecursion IsQuiet t.answers) joined ((take_at_goes (passed ++ id ∷ rest) start).1 tt) in
+        subst (λ (t : Agent). P some.world (rest_of t)) (sym same)
+        (k.follows some.world all.world (rest_of taken) (more_taken id n 100000 before h).0 (k.follows all.world taken.world (rest_of taken) (take_at_goes rest all).0 (rest_goes taken quiet)))
 
   -- ---- the lines
 
   pub mail_goes : (line node : ℕ) (w : World) → P w (mail line node w)
   mail_goes line node w = let at : ℕ = place_of_node node w.nodes in turn_goes line node at (is_some (mail_at at w)) w
+
+  -- to a moment within the turn, and from there on
+  pub taking_goes : (line node : ℕ) (w : World) (passed : List ℕ) (id n : ℕ) → P w (while_taking line node passed id n w)
+  taking_goes line node w passed id n = some_go line node (place_of_node node w.nodes) w passed id n
+
+  pub taking_on : (line node : ℕ) (w : World) (passed rest : List ℕ) (id n : ℕ) → is_some (mail_at (place_of_node node w.nodes) w) ≡ true
+      → held_ids (ends_here (place_of_node node w.nodes) w) ≡ passed ++ id ∷ rest → n ≤ 100000 → P (while_taking line node passed id n w) (mail line node w)
+  taking_on line node w passed rest id n some e h =
+      let at : ℕ = place_of_node node w.nodes in
+      subst (λ b. P (while_taking line node passed id n w) (turn_by line node at b w)) (sym some) (some_on line node at w passed rest id n e h)
 
   posted : (line node at : ℕ) (to dest : Callsign) (text : List ℕ) (m : Option Lists) (w : World) → mail_at at w ≡ m → Users to → P w (post_by line node at to dest text m w)
   posted line node at to dest text None w e u = k.tells line (events.Refused NoMail ∷ []) w (tt, tt)

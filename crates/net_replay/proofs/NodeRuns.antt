@@ -1,6 +1,6 @@
 -- Each node of a network is what inputs have led to from a start of it.
 use Rattle.std.proofs.Common.{◌≡◌, ◌∙◌, ◌+◌, ℕ, zero, suc, refl, sym, ap, subst, List, [], ◌∷◌, ◌++◌, length, map, filter, Bool}
-use Rattle.std.specs.Prelude.{slice_get, slice_set, Option, Some, None, Result, Ok, Err}
+use Rattle.std.specs.Prelude.{false, slice_get, slice_set, Option, Some, None, Result, Ok, Err}
 use Rattle.std.specs.List.{AllByRecursion}
 use Rattle.ax_address.specs.Callsign.{Callsign}
 use Rattle.circuit_l4.specs.declared.pair.Pair.{Pair}
@@ -79,7 +79,7 @@ led_on p more n a e l = record {
 -- its sessions have what all sessions have that inputs lead to
 pub sessions_of : (P : State → Session → Type 0) → EverySession P → (p : Placed) → Led p → AllByRecursion (P p.state.station) p.state.station.sessions
 sessions_of P all p l =
-    subst (λ (n : NodeState). AllByRecursion (P n.station) n.station.sessions) (sym l.is) (all l.config l.inputs (subst IsCall (sym l.call) l.own) l.asks)
+    subst (λ (n : NodeState). AllByRecursion (P n.station) n.station.sessions) (sym l.is) (all false l.config l.inputs (subst IsCall (sym l.call) l.own) l.asks)
 
 -- ---- a node as it starts
 
@@ -148,6 +148,11 @@ line_is other i = tt
 
 plain_asks : (now : ℕ) (act : UserAct) → IsPlain act → AsksForCall (nodes.Acts now act)
 plain_asks now (acts.Connect dest) i = absurd i
+plain_asks now (acts.ConnectFor user dest) i = absurd i
+plain_asks now (acts.TakeText peer) i = absurd i
+plain_asks now (acts.SendText to text) i = absurd i
+plain_asks now (acts.OpenLink to path) i = absurd i
+plain_asks now (acts.CloseLink peer) i = absurd i
 plain_asks now other i = tt
 
 module _ (entries : FetchesAllEntries) (sent : FetchesAllFrames) where

@@ -94,6 +94,7 @@ changed c w at before n step h t here goes =
         nodes = place.replaced n q (goes p.state (subst (λ k. NodeStands k p.state) (sym here) place.stands));
         mails = t.trace.mails;
         ends = t.trace.ends;
+        allowance = t.trace.allowance;
       };
       channels = t.channels;
       now = t.now;

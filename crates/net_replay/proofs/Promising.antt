@@ -116,7 +116,7 @@ module _ (plan : Plan) (steps : List Step) (w : World) (run : IsRunOf plan steps
   safe_now safe x h q =
       let s : IsSafe (first_sets plan) steps x h = safe x h (held x h q) in
       let t : SafeEnd (map (λ e. e.event) (circuit_events w)) ends x h = subst (λ es. SafeEnd es ends x h) (sym run.told) s.end in
-      record { joined = λ y k j there. t.joined y k j (held y k there); alone = t.alone }
+      record { joined = λ y k j there. t.joined y k j (held y k there); back = t.back; alone = t.alone }
 
 pub in_time_is_safe : FreshByBook → TimelyByBook → TimelyBy128 → NetworksAreSound → WorldsAreRuns → CircuitsSafe → NarrowIsTimely → SettingsFit → InTimeIsSafe
 in_time_is_safe pairs by_window by_128 sounds runs safe narrow fit bytes plan e v done later is =

@@ -16,7 +16,7 @@ use Rattle.circuit_l4.specs.Opening.{facts_of, requesting, responding}
 use Rattle.circuit_l4.specs.State.{Effect}
 use Rattle.circuit_l4.specs.Table.{Arrive, step}
 use Rattle.circuit_l4.specs.Transports.{transport_at}
-use Rattle.circuit_set.specs.Sets.{heeds, Act, Connect, Comes, Calls, Discard, Restart, Call, Holder, SetDone, SetState, CircuitTold, Heeded, Made, Lost, Gone, Restarted, Sent, accept_again, all_gone, arrives_at, after_call, after_connecting, datagram_to, after_discarding, end_of, first_open, goes_to, hands_to, after_datagram, has_ended, held_pairs, holder_of, input_of, is_open, losses, named_by, opened_by, read_as, after_transport, after_request, after_new_request, after_restart, set_step, after_effect, told_by, does_nothing, with_end}
+use Rattle.circuit_set.specs.Sets.{heeds, Act, Connect, ConnectFor, Comes, Calls, Discard, Restart, Call, Holder, SetDone, SetState, CircuitTold, Heeded, Made, Lost, Gone, Restarted, Sent, accept_again, all_gone, arrives_at, after_call, after_connecting_for, datagram_to, after_discarding, end_of, first_open, goes_to, hands_to, after_datagram, has_ended, held_pairs, holder_of, input_of, is_open, losses, named_by, opened_by, read_as, after_transport, after_request, after_new_request, after_restart, set_step, after_effect, told_by, does_nothing, with_end}
 use Rattle.circuit_set.specs.Pumps.{runs}
 use Rattle.circuit_set.specs.Pairs.{pair_after, next_free}
 
@@ -205,16 +205,16 @@ module _ (base : ℕ) (past : List Holder) (lost : Past base past) where
   abbrev full : List Pair → SetState → Bool
   full pairs s = nat_le 64 (length pairs) || nat_lt COUNT_MAX s.number
 
-  abbrev connect_by : List Pair → SetState → Callsign → ℕ → SetDone
-  connect_by pairs s dest now =
+  abbrev connect_by : List Pair → SetState → Callsign → Callsign → ℕ → SetDone
+  connect_by pairs s user dest now =
       cond (same_call dest s.own || full pairs s) (does_nothing s)
-      (make (next_free 255 pairs s.next) s dest None None (requesting (next_free 255 pairs s.next) s.user s.own s.config (min now COUNT_MAX)))
+      (make (next_free 255 pairs s.next) s dest None None (requesting (next_free 255 pairs s.next) user s.own s.config (min now COUNT_MAX)))
 
-  connect_lift : (s : SetState) (dest : Callsign) (now : ℕ) → Rising base s.ends s.number → Lifting s (after_connecting (lift past s) dest now) (after_connecting s dest now)
-  connect_lift s dest now r =
-      subst (λ pairs. Lifting s (connect_by pairs (lift past s) dest now) (connect_by (held_pairs s.ends) s dest now)) (sym (pairs_lift past s.ends lost.gone))
+  connect_lift : (s : SetState) (user dest : Callsign) (now : ℕ) → Rising base s.ends s.number → Lifting s (after_connecting_for (lift past s) user dest now) (after_connecting_for s user dest now)
+  connect_lift s user dest now r =
+      subst (λ pairs. Lifting s (connect_by pairs (lift past s) user dest now) (connect_by (held_pairs s.ends) s user dest now)) (sym (pairs_lift past s.ends lost.gone))
       (choose s (same_call dest s.own || full (held_pairs s.ends) s) _ _ _ _ (stays s r)
-      (make_lift (next_free 255 (held_pairs s.ends) s.next) s dest None None (requesting (next_free 255 (held_pairs s.ends) s.next) s.user s.own s.config (min now COUNT_MAX)) r))
+      (make_lift (next_free 255 (held_pairs s.ends) s.next) s dest None None (requesting (next_free 255 (held_pairs s.ends) s.next) user s.own s.config (min now COUNT_MAX)) r))
 
   abbrev respond_by : List Pair → SetState → Callsign → List ℕ → Pair → ℕ → ℕ → SetDone
   respond_by pairs s origin d pair window now =
@@ -345,7 +345,8 @@ module _ (base : ℕ) (past : List Holder) (lost : Past base past) where
   }
 
   pub step_lifts : (s : SetState) (a : Act) → Rising base s.ends s.number → Lifting s (set_step (lift past s) a) (set_step s a)
-  step_lifts s (Connect dest now) r = connect_lift s dest now r
+  step_lifts s (Connect dest now) r = connect_lift s s.user dest now r
+  step_lifts s (ConnectFor user dest now) r = connect_lift s user dest now r
   step_lifts s (Comes d now) r = hand_lift s d (head_at d) now r
   step_lifts s (Calls id call now) r = call_case s id call now (end_of id s.ends) refl r
   step_lifts s (Discard id) r = discard_case s id (end_of id s.ends) refl r

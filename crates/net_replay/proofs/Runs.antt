@@ -61,7 +61,7 @@ with_air c air = record c { left = record c.left { air = air } }
 pub same_air : (c : Course) (air : List Aired) (w : World) → Stands c w → air ≡ c.left.air → Stands (with_air c air) w
 same_air c air w t e =
     record {
-      trace = record { told = t.trace.told; air = e ∙ t.trace.air; declared = t.trace.declared; nodes = t.trace.nodes; mails = t.trace.mails; ends = t.trace.ends };
+      trace = record { told = t.trace.told; air = e ∙ t.trace.air; declared = t.trace.declared; nodes = t.trace.nodes; mails = t.trace.mails; ends = t.trace.ends; allowance = t.trace.allowance };
       channels = t.channels;
       now = t.now;
     }
@@ -76,6 +76,7 @@ settled_air c air at e = λ w t.
         nodes = t.trace.nodes;
         mails = t.trace.mails;
         ends = t.trace.ends;
+        allowance = t.trace.allowance;
       };
       channels = t.channels;
       now = t.now;

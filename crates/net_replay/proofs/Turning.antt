@@ -61,14 +61,14 @@ stores_as ls e m = subst (λ (vs : List (Option StoreView)). MailsStand vs ls) (
 pub mailed : (c : Course) (w : World) (stores : List (Option StoreView)) (ls : List (Option Lists)) → Stands c w → MailsStand stores ls
     → Stands (with_stores c stores) (record w { mails = ls })
 mailed c w stores ls t m = record {
-  trace = record { told = t.trace.told; air = t.trace.air; declared = t.trace.declared; nodes = t.trace.nodes; mails = m; ends = t.trace.ends };
+  trace = record { told = t.trace.told; air = t.trace.air; declared = t.trace.declared; nodes = t.trace.nodes; mails = m; ends = t.trace.ends; allowance = t.trace.allowance };
   channels = t.channels;
   now = t.now;
 }
 
 pub mailed_same : (c : Course) (w : World) (stores : List (Option StoreView)) → Stands c w → MailsStand stores w.mails → Stands (with_stores c stores) w
 mailed_same c w stores t m = record {
-  trace = record { told = t.trace.told; air = t.trace.air; declared = t.trace.declared; nodes = t.trace.nodes; mails = m; ends = t.trace.ends };
+  trace = record { told = t.trace.told; air = t.trace.air; declared = t.trace.declared; nodes = t.trace.nodes; mails = m; ends = t.trace.ends; allowance = t.trace.allowance };
   channels = t.channels;
   now = t.now;
 }

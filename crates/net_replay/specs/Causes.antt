@@ -1,8 +1,8 @@
 -- By what it shows that something in a trace came too late. Own profile.
 use Rattle.std.specs.Prelude.{ℕ, suc, ◌≡◌, ◌+◌, List, [], ◌∷◌, ◌++◌, map, length, slice_get, slice_index, Bool, true, false, if◌then◌else◌, Option, Some, None}
 use Rattle.circuit_set.specs.Events as set_events
-use Rattle.circuit_verdict.specs.Causes.{cause_after}
-use Rattle.circuit_verdict.specs.Verdicts.{AreInTime, events_of}
+use Rattle.circuit_verdict.specs.Causes.{Shows, cause_after}
+use Rattle.circuit_verdict.specs.Verdicts.{AreInTime, allows_of, events_of}
 use Rattle.circuit_verdict.specs.declared.cause.Cause.{Cause}
 use Rattle.circuit_verdict.specs.declared.cause.Cause.TheVariants as causes
 use Rattle.circuit_verdict.specs.declared.event.Numbered.{Numbered}
@@ -49,7 +49,8 @@ sign_of nodes events (causes.Held node id) = signs.Held (number_in (slice_get no
 abbrev pub what_was_told : List CircuitEvent → List set_events.Event
 what_was_told events = map (λ (e : CircuitEvent). e.event) events
 
--- the event of this number came too late by this cause, and none before it did
+-- The event of this number came too late by this cause, and none before it did. The cause is the one that is read off the notes of those
+-- before, and by these themselves it is so (`Shows`).
 pub record ComesLateBy (a : Allowance) (nodes : List Placed) (told : List NumberedEvent) (number : ℕ) (cause : Cause) : Type 0 where
   pub before : List NumberedEvent
   pub at : NumberedEvent
@@ -61,6 +62,7 @@ pub record ComesLateBy (a : Allowance) (nodes : List Placed) (told : List Number
   pub in_time : AreInTime a (what_was_told (events_at nodes before))
   pub late : AreInTime a (what_was_told (events_at nodes before) ++ event.event ∷ []) → ⊥
   pub found : cause_after a (what_was_told (events_at nodes before)) event.event ≡ Some cause
+  pub shows : Shows (allows_of a) (what_was_told (events_at nodes before)) event.event cause
 
 -- it is the event of the verdict's line
 abbrev pub IsCauseIn : Plan → World → Late → LateCause → Type 0
@@ -92,6 +94,7 @@ Judges old new told (Some cause) =
     × (told ≡ e ∷ [])
     × (cause_after a (what_was_told before) e.event ≡ Some cause)
     × (AreInTime a (what_was_told before ++ e.event ∷ []) → ⊥)
+    × Shows (allows_of a) (what_was_told before) e.event cause
 
 abbrev pub Finds : Allowance → List Placed → List NumberedEvent → Option (ℕ × Cause) → Type 0
 Finds a nodes told None = AreInTime a (what_was_told (events_at nodes told))

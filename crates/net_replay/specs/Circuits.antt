@@ -1,20 +1,19 @@
 -- What was told of circuits in a network, the verdict on it, and what the replay of a file's network comes to. Own profile.
-use Rattle.std.specs.Prelude.{◌≡◌, ℕ, List, [], ◌∷◌, ◌++◌, map, slice_get, nat_le, if◌then◌else◌, Option, Some, None, ◌<◌, ◌≤◌, length, Ok}
+use Rattle.std.specs.Prelude.{◌≡◌, ℕ, List, [], ◌∷◌, ◌++◌, map, slice_get, Option, Some, None, ◌<◌, ◌≤◌, length, Ok}
 use Rattle.circuit_set.specs.Events as set_events
 use Rattle.circuit_set.specs.Pumps.{Of}
 use Rattle.circuit_set.specs.Sets as sets
 use Rattle.circuit_verdict.specs.declared.event.Numbered.{Numbered}
-use Rattle.circuit_verdict.specs.declared.allowance.Allowance.{Allowance}
-use Rattle.circuit_verdict.specs.declared.allowance.Allowance.TheVariants.{Fixed, OfWindow}
 use Rattle.circuit_verdict.specs.declared.late.Late.{Late}
 use Rattle.circuit_verdict.specs.Verdicts as verdicts
 use Rattle.circuit_verdict.specs.Verdicts.{IsVerdict}
-use Rattle.network_file.specs.Plan.{Plan, version_of}
+use Rattle.network_file.specs.Plan.{Plan}
 use Rattle.network_file.specs.Networks.{network_of}
 use Rattle.node_turns.specs.States as states
 use Rattle.net_replay.specs.Events.{Event, Entry, Lost, NumberedEvent, Restarted}
 use Rattle.net_replay.specs.Starting.{Placed}
 use Rattle.net_replay.specs.World.{World, place_of_node, most_frames}
+pub use Rattle.net_replay.specs.World.{allowance_of}
 use Rattle.net_replay.specs.Lines.{world}
 
 -- what was told at a node's circuits, with the number of the line
@@ -43,10 +42,6 @@ events_at nodes (e ∷ es) = event_at nodes e.line e.event ++ events_at nodes es
 
 abbrev pub circuit_events : World → List CircuitEvent
 circuit_events w = events_at w.nodes w.told
-
--- files of version 3 and later allow as many overtakers as fit a circuit's window; those before fewer than 128
-abbrev pub allowance_of : Plan → Allowance
-allowance_of plan = if nat_le 3 (version_of plan) then OfWindow else Fixed
 
 abbrev pub judged : Numbered → CircuitEvent
 judged n = record { line = n.line; event = verdicts.event_of n.event }

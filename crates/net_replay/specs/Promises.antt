@@ -1,7 +1,8 @@
 -- What is promised of every network: that its circuits' part in it is a run of which `circuit_set` speaks, and what holds of its
 -- circuits and its mail. Own profile.
-use Rattle.std.specs.Prelude.{ℕ, ◌≡◌, List, ◌++◌, map, slice_get, Option, Some, None, Ok, true}
+use Rattle.std.specs.Prelude.{ℕ, ◌≡◌, ◌≤◌, List, [], ◌∷◌, ◌++◌, is_some, map, slice_get, Option, Some, None, Ok, true}
 use Rattle.std.specs.List.{AllByRecursion}
+use Rattle.circuit_set.specs.CircuitSets.{held_ids}
 use Rattle.circuit_set.specs.Events.{Name}
 use Rattle.circuit_set.specs.Safe.{TellsRetries, Safe, SafeEnd}
 use Rattle.circuit_set.specs.Runs.{Step, AreStarts, AreSteps, events_of, sets_run}
@@ -11,15 +12,15 @@ use Rattle.network_file.specs.declared.plan.instructions.NumberedInstruction.{Nu
 use Rattle.network_file.specs.Networks.{network_of}
 use Rattle.network_file.specs.Plan.{Plan}
 use Rattle.network_file.specs.declared.plan.instructions.Instruction.{Instruction}
-use Rattle.network_file.specs.declared.plan.instructions.Instruction.TheVariants.{Open, Restart}
+use Rattle.network_file.specs.declared.plan.instructions.Instruction.TheVariants.{Mail, Open, Restart}
 use Rattle.node_mail.specs.Lists.{Lists}
 use Rattle.node_mail.specs.MailOnce.{MailOnce}
 use Rattle.ax_address.specs.Callsign.{IsCallsign}
 use Rattle.net_replay.specs.Circuits.{IsVerdictOn, circuit_events}
 use Rattle.net_replay.specs.Lines.{do_lines, world}
-use Rattle.net_replay.specs.Mailing.{mail_at}
+use Rattle.net_replay.specs.Mailing.{ends_here, mail_at, take_at, take_from}
 use Rattle.net_replay.specs.Starting.{Placed, new_nodes}
-use Rattle.net_replay.specs.World.{World, start}
+use Rattle.net_replay.specs.World.{World, place_of_node, start}
 
 -- That what happens in a network is a run of its nodes' circuits, of which `circuit_set` speaks. Own profile.
 
@@ -97,7 +98,7 @@ abbrev pub end_now : World → Name → Option Holder
 end_now w x = end_with (slice_get w.nodes x.node) x.id
 
 -- Of each end that a node knows of, and its partner by what was told of circuits, where a node knows of that: each has received a
--- beginning of what the other wrote, with every message that is acknowledged in it, and all of it after an orderly close. An end
+-- beginning of what the other wrote, with every message that is acknowledged in it, and all of it after the other's orderly close. An end
 -- without a partner has received nothing.
 abbrev pub SafeNow : World → Type 0
 SafeNow w = (x : Name) (h : Holder) → end_now w x ≡ Some h → SafeEnd (map (λ e. e.event) (circuit_events w)) (end_now w) x h
@@ -126,11 +127,23 @@ MailOnceNow w =
     (a b : ℕ) (p q : Placed) (from at : Lists) → slice_get w.nodes a ≡ Some p → slice_get w.nodes b ≡ Some q
     → mail_at a w ≡ Some from → mail_at b w ≡ Some at → MailOnce p.declared.call q.declared.call from at
 
--- at each line
-abbrev pub MailOnceThroughout : Plan → Type 0
-MailOnceThroughout plan =
-    (done later : List NumberedInstruction) → plan.instructions ≡ done ++ later
-    → MailOnceNow (do_lines plan done (start plan))
+-- what a network has come to in the turn of a node's agent, at a `mail` line, when it has gone through these ends and has taken so many
+-- messages at the next one, or all that wait there
+abbrev pub while_taking : ℕ → ℕ → List ℕ → ℕ → ℕ → World → World
+while_taking line node passed end count w =
+    let at : ℕ = place_of_node node w.nodes in
+    (take_from line node at end count (take_at line node at passed (record { world = w; answers = [] }))).world
+
+-- At each line; and within a line `mail` of a node that keeps mail, after each message that its agent takes. (Besides these, posts alone
+-- change what nodes keep.)
+pub record MailOnceThroughout (plan : Plan) : Type 0 where
+  pub lines : (done later : List NumberedInstruction) → plan.instructions ≡ done ++ later → MailOnceNow (do_lines plan done (start plan))
+  pub within : (done later : List NumberedInstruction) (line node : ℕ) → plan.instructions ≡ done ++ record { line = line; instruction = Mail node } ∷ later
+      → let w : World = do_lines plan done (start plan) in
+      let at : ℕ = place_of_node node w.nodes in
+      is_some (mail_at at w) ≡ true
+      → (passed rest : List ℕ) (end count : ℕ) → held_ids (ends_here at w) ≡ passed ++ end ∷ rest → count ≤ 100000
+      → MailOnceNow (while_taking line node passed end count w)
 
 -- so it is with each file of which no datagram and no pair comes back too late
 abbrev pub InTimeMailIsOnce : Type 0

@@ -21,6 +21,7 @@ of_write writes.TooLong = TooLong
 of_write writes.QueueFull = QueueFull
 of_write writes.Exhausted = Exhausted
 
+-- what a node refuses that hosts users no line asks for
 abbrev pub of_act : ActRefusal → Option LineRefusal
 of_act acts.NoEnd = Some NoEnd
 of_act acts.Served = Some Served
@@ -31,6 +32,10 @@ of_act acts.Full = Some Full
 of_act acts.TooLow = Some TooLow
 of_act (acts.TableFull live would_be) = Some TableFull
 of_act (acts.Write why) = Some (of_write why)
+of_act acts.NoLink = Some NoEnd
+of_act acts.Standing = Some Full
+of_act acts.TooLong = Some TooLong
+of_act acts.NoRoom = Some QueueFull
 of_act acts.NoMemory = None
 
 -- a mail isn't posted

@@ -32,7 +32,15 @@ pub record Course : Type 0 where
 
 abbrev pub course : code.World → Course
 course w = record {
-  left = record { declared = w.declared.items; nodes = w.nodes.items; mails = w.mails.items; air = w.air; ends = w.ends; events = w.events.items };
+  left = record {
+    declared = w.declared.items;
+    nodes = w.nodes.items;
+    mails = w.mails.items;
+    air = w.air;
+    ends = w.ends;
+    events = w.events.items;
+    allowance = w.allowance;
+  };
   channels = w.channels.now;
   now = w.time.0;
 }

@@ -3,6 +3,7 @@ ghost use Rattle.net_replay.specs.Promises.{NetworksAreSound, WorldsAreRuns, Eac
 ghost use Rattle.net_replay.specs.Conversations.{InTimeUsersAgree};
 ghost use Rattle.net_replay.specs.Datagrams.{DatagramsSent};
 ghost use Rattle.net_replay.specs.Hops.{HopsTakeOne};
+ghost use Rattle.net_replay.specs.Logs.{TablesOfLogs};
 ghost use Rattle.net_replay.specs.Returning.{CopiesAloneReturn};
 
 /// In every network of a file the nodes' circuits start as circuits do; a circuit is asked for with a call, and a node starts again at a pair.
@@ -24,8 +25,8 @@ pub fn worlds_are_circuit_runs()
 }
 
 /// Where no datagram and no pair comes back too late, each circuit user has received, at each line, exactly a beginning of its partner's
-/// messages, with every acknowledged one, and all of them after an orderly close: of the ends that the nodes know of when the line is done, by what
-/// was told until then (`SafeNow`), and at each moment within the line, by the steps that led there.
+/// messages, with every acknowledged one, and all of them after the partner's orderly close: of the ends that the nodes know of when the
+/// line is done, by what was told until then (`SafeNow`), and at each moment within the line, by the steps that led there.
 pub fn in_time_is_safe()
     ensures { InTimeIsSafe }
 {
@@ -37,8 +38,9 @@ pub fn in_time_is_safe()
     network_file::laws::networks_fit();
 }
 
-/// Where no datagram and no pair comes back too late: at each line, of any two nodes that keep mail, what one has stored from the other has
-/// different numbers, and each is as it was posted there for it; and each mail that was posted there for it is queued there or stored here.
+/// Where no datagram and no pair comes back too late: at each line, and after each message that an agent takes within a line, of any two
+/// nodes that keep mail, what one has stored from the other has different numbers, and each is as it was posted there for it; and each
+/// mail that was posted there for it is queued there or stored here.
 pub fn mail_in_time()
     ensures { InTimeMailIsOnce }
 {
@@ -73,6 +75,13 @@ pub fn users_agree()
     node_core::laws::bridged();
     node_core::laws::fetching_empties();
 }
+
+/// At each line of every network: in what is left of a replay of the lines up to there each node's table holds the usable routes of its
+/// log, and nothing else (`StandsFor` in `specs/Held.antt` of `route_table`). These lines by themselves come to what the whole file has
+/// come to there.
+pub fn tables_of_logs()
+    ensures { TablesOfLogs }
+{}
 
 /// Each hop takes one from the time to live. So a datagram that comes with the time to live that it was sent with has come from its origin, which put it
 /// in the air for that node: a node that passes it on and leaves the time to live as it is makes that false.
@@ -114,9 +123,10 @@ pub fn retries_are_told()
     circuit_set::laws::retries_are_told();
 }
 
-/// In a network whose nodes all have one modulus, whatever is lost, repeated, delayed or reordered: up to its first line that starts a node again,
-/// and while no node has given more than the 48,960 pairs of which none stands twice, what is told of circuits is fresh, but where a copy of a
-/// connect request opens an end again, after the one that it opened earlier was told how it ended.
+/// Where all nodes of a network have one modulus (`IsOfModulus`), whatever is lost, repeated, delayed or reordered: up to its first line
+/// that starts a node again, and while no node has given more than the 48,960 pairs of which none stands twice, what is told of circuits
+/// is fresh by the notes of it (`FreshBut`), but where a copy of a connect request opens an end again, after the one that it opened
+/// earlier was told how it ended. Behind the first such opening the notes alone are spoken of.
 pub fn copies_alone_return()
     ensures { CopiesAloneReturn }
 {

@@ -7,7 +7,7 @@ use circuit_l4::WriteRefusal;
 use node_core::ActRefusal;
 use node_mail::PostRefusal;
 
-/// Why a node didn't act.
+/// Why a node didn't act. What a node refuses that hosts users no line asks for.
 pub fn of_act(refusal: ActRefusal) -> Option<LineRefusal>
     ensures { result ≡ refused.of_act refusal }
 {
@@ -21,6 +21,10 @@ pub fn of_act(refusal: ActRefusal) -> Option<LineRefusal>
         ActRefusal::TooLow => Some(LineRefusal::TooLow),
         ActRefusal::TableFull { .. } => Some(LineRefusal::TableFull),
         ActRefusal::Write(refusal) => Some(of_write(refusal)),
+        ActRefusal::NoLink => Some(LineRefusal::NoEnd),
+        ActRefusal::Standing => Some(LineRefusal::Full),
+        ActRefusal::TooLong => Some(LineRefusal::TooLong),
+        ActRefusal::NoRoom => Some(LineRefusal::QueueFull),
         ActRefusal::NoMemory => None,
     }
 }

@@ -6,7 +6,6 @@ ghost use Rattle.net_replay.specs.Circuits.{allowance_of};
 ghost use Rattle.net_replay.specs.Lines as lines;
 ghost use Rattle.net_replay.specs.Traces.{IsRefusal, IsTraceOf, allowance_in, left_of};
 
-use crate::late::allowance_of;
 use crate::refusals::ReplayRefusal;
 use crate::trace::Trace;
 use crate::world::start;
@@ -25,5 +24,5 @@ pub fn replay(alloc: Global, network: &Network) -> Result<Trace, ReplayRefusal>
 {
     let mut world = start(alloc, network)?;
     world.do_all(network, network.instructions())?;
-    Ok(Trace::new(world, allowance_of(network.version())))
+    Ok(Trace::new(world))
 }

@@ -8,19 +8,23 @@ ghost use Rattle.net_replay.specs.World as worlds;
 use crate::air::Air;
 use crate::ends::Ends;
 use crate::events::NumberedEvent;
+use crate::late::allowance_of;
 use crate::mails::new_mails;
 use crate::stations::{declared_by_number, nodes_of};
+use circuit_verdict::Allowance;
 use network_file::{Channel, Declaration, Network};
 use node_core::Node;
 use node_mail::Store;
 use radio_base::{Moment, NoMemory};
 use std::alloc::Global;
 
-/// A replay while it runs: the channels, the nodes by number and their mail, the time, the frames in the air, and the events so far.
+/// A replay while it runs: the channels, the allowance, the nodes by number and their mail, the time, the frames in the air, and the events so far.
 #[derive(Drop)]
 pub struct World<'a> {
     pub alloc: Global,
     pub channels: &'a [Channel],
+    /// How many overtakers are too many.
+    pub allowance: Allowance,
     pub declared: Vec<Declaration>,
     pub nodes: Vec<Node>,
     /// The mail of each node, by place; none where a node keeps no mail.
@@ -42,6 +46,7 @@ pub fn start(alloc: Global, network: &Network) -> Result<World<'_>, NoMemory>
     Ok(World {
         alloc,
         channels: network.channels(),
+        allowance: allowance_of(network.version()),
         declared,
         nodes,
         mails,

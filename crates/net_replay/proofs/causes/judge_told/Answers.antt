@@ -7,6 +7,7 @@ returns-in-Some c =
     found_late c.args.verdict.now c.args.verdict.now (record { line = c.args.line; event = c.args.event.now }) c.in-Some.cause
     (λ ns stands in_time. sym c.in-Some.is ∙ c.in_ok-cause.ensures.exact ns stands in_time)
     (λ ns stands in_time all. (let none = sym c.in-Some.is ∙ (c.in_ok-cause.ensures.none ns stands in_time).1 all in absurd (cc none)))
+    (λ ns stands in_time. c.in_ok-cause.ensures.shows ns stands in_time c.in-Some.cause c.in-Some.is)
 
 pub returns-in_ok-heed-in-None : goal.returns-in_ok-heed-in-None
 returns-in_ok-heed-in-None c =

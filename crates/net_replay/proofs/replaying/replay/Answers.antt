@@ -1,8 +1,9 @@
-use Rattle.std.proofs.Common.{sym, subst}
+use Rattle.std.proofs.Common.{◌∙◌, ap, sym, subst}
 use Rattle.std.proofs.lemmas.Result.{err_from_is_err_and}
 use Rattle.net_replay.specs.Lines.{world}
 use Rattle.net_replay.specs.Traces.{IsTraceOf, Left}
 use Rattle.net_replay.specs.World.{start}
+use Rattle.net_replay.proofs.Allowances.{allowance_stays}
 use Rattle.net_replay.proofs.replaying.replay.Goals as goal
 
 pub returns-clause-ok : goal.returns-clause-ok
@@ -12,6 +13,14 @@ returns-clause-ok c =
     let all = rw c.instructions.ensures at c.in_ok-do_all.ensures.runs in
     let there = all (start plan) c.in_ok-world.ensures.stands in
     subst (λ (l : Left). IsTraceOf l (world plan)) (sym c.new.ensures.left) there.trace
+
+pub returns-clause-allowance : goal.returns-clause-allowance
+unfolding world
+returns-clause-allowance c =
+    let plan = c.args.network.now in
+    let all = rw c.instructions.ensures at c.in_ok-do_all.ensures.runs in
+    let there = all (start plan) c.in_ok-world.ensures.stands in
+    ap (λ (l : Left). l.allowance) c.new.ensures.left ∙ (there.trace.allowance ∙ allowance_stays plan (rw c.instructions.ensures at c.in_ok-do_all.ensures.sound))
 
 pub returns-in_err-do_all-clause-err : goal.returns-in_err-do_all-clause-err
 unfolding world

@@ -1,4 +1,6 @@
 use Rattle.std.proofs.Common.{◌∙◌, ap, sym, subst, map, List, refl}
+use Rattle.std.specs.Prelude.{nat_le, if◌then◌else◌}
+use Rattle.circuit_verdict.specs.declared.allowance.Allowance.TheVariants.{Fixed, OfWindow}
 use Rattle.network_file.specs.declared.plan.declarations.Declaration.{Declaration}
 use Rattle.circuit_set.specs.Runs.{AreStarts}
 use Rattle.net_replay.specs.Promises.{sets_of}
@@ -21,6 +23,7 @@ returns-clause-stands c =
         mails =
             subst (λ (ds : List Declaration). MailsStand c.in_ok-mails.mails.items (map (new_mail plan.settings) ds)) (c.deref-2.ensures.value ∙ c.in_ok-declared.ensures) c.in_ok-mails.ensures;
         ends = λ node. c.in_ok-new.ensures node;
+        allowance = c.allowance_of.ensures ∙ ap (λ v. if nat_le 3 v then OfWindow else Fixed) c.version.ensures;
       };
       channels = c.channels.ensures;
       now = refl;

@@ -20,6 +20,7 @@ returns-clause-goes c = λ w t.
         nodes = t.trace.nodes;
         mails = t.trace.mails;
         ends = λ node. c.in_ok-note.ensures node ∙ (ap (note_event node event) (t.trace.ends node) ∙ sym (one_more node w.told (numbered c.args.line event)));
+        allowance = t.trace.allowance;
       };
       channels = t.channels;
       now = t.now;
