@@ -1,4 +1,4 @@
-//! A file is read to its end, and a source over any reader: the edge of what is proved.
+//! A file is read to its end, and a source over any reader.
 ghost use Rattle.std.specs.Prelude.{◌≡◌, ◌++◌, List, ℕ, length, OnOk, IfOk, IfErr, None};
 ghost use Rattle.std.specs.Io.KnownBytes.{Consumes, IsAtEnd};
 ghost use Rattle.cmd_streams.specs.Reading.{ReadsAll, WhyUnread, WhyNoMore};
@@ -14,7 +14,8 @@ const MAX_FILE: usize = 1_048_576;
 /// The most bytes that are read at a time.
 const READ_SIZE: usize = 4096;
 
-/// A source over any reader. It tells nothing of content.
+/// A source over any reader. It tells of the bytes still to come what the reader tells, and nothing of the sizes of its reads. An error of
+/// the reader is a fault, and no end.
 #[derive(Drop)]
 pub struct Reading<R: Read + Drop> {
     reader: R,
@@ -22,7 +23,10 @@ pub struct Reading<R: Read + Drop> {
 }
 
 impl<R: Read + Drop> Reading<R> {
-    pub fn new(reader: R) -> Self {
+    pub fn new(reader: R) -> Self
+        ensures reader { result.reader ≡ reader }
+        ensures faults { result.faults ≡ 0 }
+    {
         Reading { reader, faults: 0 }
     }
 
@@ -35,7 +39,7 @@ impl<R: Read + Drop> Reading<R> {
 }
 
 impl<R: Read + Drop> Source for Reading<R> {
-    ghost left = { λ _. None };
+    ghost left = { λ s. R.remaining s.reader };
 
     ghost reads = { λ _. None };
 

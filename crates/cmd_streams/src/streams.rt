@@ -28,7 +28,7 @@ pub enum StreamRefusal {
 }
 
 /// Reads a stream to its end, at most as many bytes at a time as the buffer has, and writes the answer to each read before the
-/// next, so the memory that it takes doesn't grow with the stream. The clock is asked once behind each read that gave bytes.
+/// next, so that no earlier read is wanted any more. The clock is asked once behind each read that gave bytes.
 ///
 /// The status says how it ended, and where the input was refused the notes say why.
 pub fn answer_stream<T: Taker, S: Source, K: Sink, N: Sink, C: Clock>(

@@ -1,5 +1,5 @@
 //! A clock over the system's clock: the edge of what is proved.
-ghost use Rattle.std.specs.Prelude.{None};
+ghost use Rattle.std.specs.Prelude.{◌≡◌, None};
 
 use radio_base::{Clock, Moment};
 use std::time;
@@ -14,7 +14,9 @@ pub struct SystemClock<T: time::Clock + Drop> {
 }
 
 impl<T: time::Clock + Drop> SystemClock<T> {
-    pub fn new(time: T) -> Self {
+    pub fn new(time: T) -> Self
+        ensures { result.last ≡ 0 }
+    {
         SystemClock { time, last: 0 }
     }
 }

@@ -1,5 +1,5 @@
-//! All of a text is written, piece by piece, and a sink over any writer: the edge of what is proved.
-ghost use Rattle.std.specs.Prelude.{◌≡◌, OnOk, OnErr, None};
+//! All of a text is written, piece by piece, and a sink over any writer.
+ghost use Rattle.std.specs.Prelude.{◌≡◌, OnOk, OnErr};
 ghost use Rattle.std.specs.Io.KnownBytes.{Appends};
 ghost use Rattle.radio_base.specs.Causes.{Rose};
 ghost use Rattle.cmd_streams.specs.Told.{AppendsFront};
@@ -7,7 +7,8 @@ ghost use Rattle.cmd_streams.specs.Told.{AppendsFront};
 use radio_base::{Failed, Sink};
 use std::io::Write;
 
-/// A sink over any writer. It tells nothing of content. A write of no bytes of a piece is a fault.
+/// A sink over any writer. It tells of the bytes that were written what the writer tells. An error of the writer is a fault, and so is a
+/// write of no bytes of a piece.
 #[derive(Drop)]
 pub struct Writing<W: Write + Drop> {
     writer: W,
@@ -15,7 +16,10 @@ pub struct Writing<W: Write + Drop> {
 }
 
 impl<W: Write + Drop> Writing<W> {
-    pub fn new(writer: W) -> Self {
+    pub fn new(writer: W) -> Self
+        ensures writer { result.writer ≡ writer }
+        ensures faults { result.faults ≡ 0 }
+    {
         Writing { writer, faults: 0 }
     }
 
@@ -28,7 +32,7 @@ impl<W: Write + Drop> Writing<W> {
 }
 
 impl<W: Write + Drop> Sink for Writing<W> {
-    ghost written = { λ _. None };
+    ghost written = { λ s. W.contents s.writer };
 
     ghost faults = { λ s. s.faults };
 

@@ -39,7 +39,7 @@ pub record TraceEnds (before after : StreamsTold) (status : Status) : Type 0 whe
   pub read_fault : status ≡ ReadFault → Rose before.read_faults after.read_faults
   pub read_few : status ≡ ReadFault → ReadsFew before.left after.left
   pub read_same : status ≢ ReadFault → after.read_faults ≡ before.read_faults
-  -- It is too long exactly where one more byte was read than a file may have, or where a good file would put one more frame
+  -- It is too long exactly where more bytes were read than a file may have, or where a good file would put one more frame
   -- in the air than may be there.
   pub too_long : status ≡ TooLong → ReadsTooMuch before.left after.left ⊎ ReadsNetwork before after (λ _. AirsTooMany)
   pub too_long_comes : TellsTooMuch before.left ⊎ TellsGoodFile network_of AirsTooMany before.left

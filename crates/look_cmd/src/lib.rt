@@ -9,5 +9,5 @@ mod top;
 mod traces;
 mod usage;
 
-pub use cmd_streams::{Reading, Status, Writing};
+pub use cmd_streams::{Status, start};
 pub use top::look;

@@ -33,7 +33,7 @@ pub record LifeEnds (s : LifeSettings) (before after : StreamsTold) (status : St
   pub read_fault : status ≡ ReadFault → Rose before.read_faults after.read_faults
   pub read_few : status ≡ ReadFault → ReadsFew before.left after.left
   pub read_same : status ≢ ReadFault → after.read_faults ≡ before.read_faults
-  -- It is too long exactly where one more byte was read than a file may have.
+  -- It is too long exactly where more bytes were read than a file may have.
   pub too_long : status ≡ TooLong → ReadsTooMuch before.left after.left
   pub too_long_comes : TellsTooMuch before.left → ReadsWell before after → Comes TooLong status
   -- A script is bad exactly where it was read to its end and has a first bad line, which the note names.
