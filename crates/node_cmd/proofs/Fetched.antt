@@ -5,7 +5,8 @@ use Rattle.link_table.specs.declared.written.Written.{Written}
 use Rattle.node_core.specs.Fetching.{FetchesAllFrames, FramesInOrder, fetch_frames, without_entries, without_frames}
 use Rattle.node_turns.specs.States.{Entry, NodeState, State, fetch_entry, fetch_frame, fetch_own, frames}
 use Rattle.node_core.specs.Inputs.{after_bytes}
-use Rattle.node_cmd.specs.Live.{IsKept, StaysWithin, after_read, after_reads, answer_to, answer_to_reads, fetched, kiss_of, kiss_of_frame}
+use Rattle.node_cmd.specs.Live.{IsKept, NodeAtRead, StaysWithin, after_read, after_reads, answer_to, answer_to_reads, fetched, kiss_of, kiss_of_frame}
+use Rattle.node_core.specs.Standing.{Kept}
 use Rattle.cmd_streams.specs.Streams.{Read}
 
 -- ---- frames
@@ -62,9 +63,13 @@ answer_to_reads-more (first ∷ later) read n =
     ap (λ (xs : List ℕ). answer_to first n ++ xs) (answer_to_reads-more later read (fetched (after_read first n)))
     ∙ sym (append_assoc (answer_to first n) (answer_to_reads later (fetched (after_read first n))) (answer_to read (after_reads later (fetched (after_read first n)))))
 
-pub stays-more : (reads : List Read) (read : Read) (n : NodeState) → StaysWithin reads n
-    → (let m : NodeState = after_reads reads n in IsKept (after_bytes read.now read.bytes m) → IsKept (after_read read m) → IsKept (fetched (after_read read m))
-    → StaysWithin (reads ++ read ∷ []) n)
-stays-more [] read n before fed ticked done = (before, fed, ticked, done)
-stays-more (first ∷ later) read n before fed ticked done =
-    (before.0, before.1, before.2, stays-more later read (fetched (after_read first n)) before.3 fed ticked done)
+pub stays-more : (node : Kept) (nodes : List NodeAtRead) (last : Kept) (next : NodeAtRead) (reads : List Read) (read : Read) (n : NodeState)
+    → StaysWithin node nodes last reads n
+    → (let m : NodeState = after_reads reads n in IsKept next.fed (after_bytes read.now read.bytes m) → IsKept next.ticked (after_read read m)
+    → IsKept next.fetched (fetched (after_read read m))
+    → StaysWithin node (nodes ++ next ∷ []) next.fetched (reads ++ read ∷ []) n)
+stays-more node [] last next [] read n before fed ticked done = (before.1, fed, ticked, (refl, done))
+stays-more node (first ∷ nodes) last next (one ∷ later) read n before fed ticked done =
+    (before.0, before.1, before.2, stays-more first.fetched nodes last next later read (fetched (after_read one n)) before.3 fed ticked done)
+stays-more node [] last next (one ∷ later) read n before fed ticked done = absurd before
+stays-more node (first ∷ nodes) last next [] read n before fed ticked done = absurd before

@@ -46,39 +46,50 @@ abbrev pub answer_to_reads : List Read → NodeState → List ℕ
 answer_to_reads [] n = []
 answer_to_reads (read ∷ later) n = answer_to read n ++ answer_to_reads later (fetched (after_read read n))
 
--- a node that stands for the machine then keeps no more than its bound
-abbrev pub IsKept : NodeState → Type 0
-IsKept n = (node : Kept) × NodeStands node n × IsWithin node
+-- the program's node at a read: behind its bytes, behind its tick, and once all was fetched
+pub record NodeAtRead : Type 0 where
+  pub fed : Kept
+  pub ticked : Kept
+  pub fetched : Kept
 
--- so it is before these reads, at each of them behind its bytes and behind its tick, and once all was fetched
-abbrev pub StaysWithin : List Read → NodeState → Type 0
-StaysWithin [] n = IsKept n
-StaysWithin (read ∷ later) n =
-    IsKept n × IsKept (after_bytes read.now read.bytes n) × IsKept (after_read read n)
-    × StaysWithin later (fetched (after_read read n))
+-- a node stands for that machine, and keeps no more than its bound
+abbrev pub IsKept : Kept → NodeState → Type 0
+IsKept node n = NodeStands node n × IsWithin node
 
--- a node has taken these reads from that machine on, and answered them with that text
-pub record HasLived (node : Kept) (reads : List Read) (text : List ℕ) (n : NodeState) : Type 0 where
-  pub stands : NodeStands node (after_reads reads n)
-  pub within : IsWithin node
+-- So it is of the program's node before these reads, and then of those that it becomes at each of them, up to the last.
+abbrev pub StaysWithin : Kept → List NodeAtRead → Kept → List Read → NodeState → Type 0
+StaysWithin node [] last [] n = (last ≡ node) × IsKept node n
+StaysWithin node (next ∷ nodes) last (read ∷ later) n =
+    IsKept node n × IsKept next.fed (after_bytes read.now read.bytes n) × IsKept next.ticked (after_read read n)
+    × StaysWithin next.fetched nodes last later (fetched (after_read read n))
+StaysWithin node nodes last reads n = ⊥
+
+-- the program's node has taken these reads from that machine on, answered them with that text, and become the last so
+pub record HasLived (first last : Kept) (reads : List Read) (text : List ℕ) (n : NodeState) : Type 0 where
+  pub stands : NodeStands last (after_reads reads n)
+  pub within : IsWithin last
   pub answer : text ≡ answer_to_reads reads n
-  pub stays : StaysWithin reads n
+  pub nodes : List NodeAtRead
+  pub stays : StaysWithin first nodes last reads n
 
 -- the first node became the last so, from whatever machine it stood for
 abbrev pub LivesThrough : Kept → Kept → List Read → List ℕ → Type 0
-LivesThrough first last reads text = (n : NodeState) → NodeStands first n → IsWithin first → HasLived last reads text n
+LivesThrough first last reads text = (n : NodeState) → NodeStands first n → IsWithin first → HasLived first last reads text n
 
--- a text is what the declared node sends at these reads, and at each moment of them it keeps no more than its bound
-abbrev pub IsAnswerOf : LiveNode → List Read → List ℕ → Type 0
-IsAnswerOf declared reads text =
-    let n : NodeState = live_started declared in
-    (text ≡ answer_to_reads reads n) × StaysWithin reads n
+-- a text is what the declared node sends at these reads, and at each moment of them the program's node keeps no more than its bound
+pub record IsAnswerOf (declared : LiveNode) (reads : List Read) (text : List ℕ) : Type 0 where
+  pub answer : text ≡ answer_to_reads reads (live_started declared)
+  pub first : Kept
+  pub nodes : List NodeAtRead
+  pub last : Kept
+  pub stays : StaysWithin first nodes last reads (live_started declared)
 
--- the node that is left stands for the machine after these reads, and keeps no more than its bound
-abbrev pub LeavesNode : Ran → NodeState → Type 0
-LeavesNode (Served node) n = NodeStands node n × IsWithin node
-LeavesNode _ n = ⊥
+-- that node is left: it stands for the machine then, and keeps no more than its bound
+abbrev pub LeavesNode : Ran → Kept → NodeState → Type 0
+LeavesNode (Served node) last n = (node ≡ last) × IsKept node n
+LeavesNode _ last n = ⊥
 
+-- so a text is the answer, and the last of the nodes is left
 abbrev pub ServesReads : LiveNode → Ran → List Read → List ℕ → Type 0
 ServesReads declared ran reads text =
-    IsAnswerOf declared reads text × LeavesNode ran (after_reads reads (live_started declared))
+    (a : IsAnswerOf declared reads text) × LeavesNode ran a.last (after_reads reads (live_started declared))

@@ -14,6 +14,6 @@ mod starting;
 mod top;
 mod usage;
 
-pub use cmd_streams::{Reading, Status, SystemClock, Writing};
+pub use cmd_streams::{Reading, Status, SystemClock, Writing, start};
 pub use ran::Ran;
 pub use top::run;

@@ -18,6 +18,7 @@ use network_file::LiveNode;
 use node_core::Node;
 use radio_base::{Clock, Moment, NoMemory, Sink, Source, TextOut};
 use std::alloc::Global;
+use std::marker::Model;
 
 /// The most bytes that are read at a time.
 const READ_SIZE: usize = 4_096;
@@ -25,16 +26,30 @@ const READ_SIZE: usize = 4_096;
 /// Room for a frame as KISS bytes: at most 1,024 bytes with the type byte, each of which may be escaped, between two FENDs.
 type KissBytes = ArrayVec<u8, 2050>;
 
-/// A node that lives on the reads of a stream.
+/// A node that lives on the reads of a stream. It is that node and nothing else, as `inverse` says: what it keeps is what the node keeps.
 #[derive(Drop)]
 struct Living {
     node: Node,
 }
 
+impl Model for Living {
+    ghost use Rattle.std.specs.Coded.{codes};
+    ghost use Rattle.node_core.specs.contracts.node.Node.{the_row as node_row};
+    ghost use Rattle.node_core.specs.Standing.{Kept};
+
+    ghost Value = { Kept };
+
+    ghost coded = { Prim.hlevel (codes, node_row.coded) };
+
+    ghost view = { λ living. living.node };
+
+    ghost inverse = { λ node. record { node = node } };
+}
+
 impl Taker for Living {
     ghost use Rattle.node_cmd.specs.Live.{LivesThrough};
 
-    ghost took = { λ first last reads text. LivesThrough first.node last.node reads text };
+    ghost took = { LivesThrough };
 
     fn take(&mut self, bytes: &[u8], now: Moment, answer: &mut TextOut) -> Result<(), NoMemory> {
         self.node.kiss_bytes(bytes, now)?;

@@ -9,14 +9,18 @@ use std::process::Abort;
 use std::time::Duration;
 use std::{io, time};
 
-/// A stream that answers each call with the next of these counts, or an error.
+/// How many bytes a stream gives or takes at each of its calls; None is an error, and so is each call behind these.
 #[derive(Drop)]
-struct Answers {
-    counts: [Option<usize>; 3],
+struct Counts {
+    counts: [Option<usize>; 4],
     calls: usize,
 }
 
-impl Answers {
+impl Counts {
+    fn new(counts: [Option<usize>; 4]) -> Counts {
+        Counts { counts, calls: 0 }
+    }
+
     fn next(&mut self, most: usize) -> io::Result<usize>
         ensures { IfOk result (λ n. n ≤ most) }
     {
@@ -29,15 +33,38 @@ impl Answers {
     }
 }
 
-impl Read for Answers {
+/// A stream that gives these bytes.
+#[derive(Drop)]
+struct Gives {
+    counts: Counts,
+    bytes: &'static [u8],
+}
+
+impl Read for Gives {
     fn read(&mut self, buf: &mut [u8]) -> io::Result<usize> {
-        self.next(buf.len())
+        let count = self.counts.next(buf.len().min(self.bytes.len()))?;
+        let (given, left) = self.bytes.split_at(count);
+        buf[..count].copy_from_slice(given);
+        self.bytes = left;
+        Ok(count)
     }
 }
 
-impl Write for Answers {
+/// A stream that shows the bytes that it took, the last eight of them as a number.
+#[derive(Drop)]
+struct Takes<'a> {
+    counts: Counts,
+    taken: &'a Cell<u64>,
+}
+
+impl Write for Takes<'_> {
     fn write(&mut self, piece: &[u8]) -> io::Result<usize> {
-        self.next(piece.len())
+        let count = self.counts.next(piece.len())?;
+        for byte in &piece[..count] {
+            let shown = self.taken.get().wrapping_mul(256);
+            self.taken.set(shown | u64::from(*byte));
+        }
+        Ok(count)
     }
 
     fn flush(&mut self) -> io::Result<()> {
@@ -45,7 +72,7 @@ impl Write for Answers {
     }
 }
 
-/// A clock that shows what a cell holds, or can't be read.
+/// A clock that shows what a cell holds, or can't be read. Since 1970 more time has gone by.
 #[derive(Drop)]
 struct Shown<'a>(&'a Cell<Option<u64>>);
 
@@ -58,31 +85,42 @@ impl time::Clock for Shown<'_> {
     }
 
     fn since_1970(&self) -> io::Result<Duration> {
-        self.monotonic()
+        match self.0.get() {
+            Some(millis) => Ok(Duration::from_millis(millis.saturating_add(1_000_000))),
+            None => Err(io::Error::from(io::ErrorKind::Other)),
+        }
     }
 }
 
-/// Asserts what a read answers.
-fn expect_read(rt: &impl Abort, source: &mut Reading<Answers>, wanted: Result<usize, Failed>) {
-    assert_eq!(rt; source.read(&mut [0u8; 4]), wanted);
+/// Asserts what a read answers, and what stands in its buffer then.
+fn expect_read(
+    rt: &impl Abort,
+    source: &mut Reading<Gives>,
+    wanted: Result<usize, Failed>,
+    bytes: &[u8],
+) {
+    let mut buf = *b"....";
+    assert_eq!(rt; source.read(&mut buf), wanted);
+    assert!(rt; buf.as_slice() == bytes);
 }
 
 #[test]
-fn an_error_of_a_read_is_a_fault(rt: HostRuntime) {
-    let mut source = Reading::new(Answers {
-        counts: [Some(2), None, Some(0)],
-        calls: 0,
+fn an_error_of_a_read_is_a_fault_and_no_byte_is_lost(rt: HostRuntime) {
+    let mut source = Reading::new(Gives {
+        counts: Counts::new([Some(2), None, Some(4), Some(4)]),
+        bytes: b"abc",
     });
-    expect_read(&rt, &mut source, Ok(2));
-    expect_read(&rt, &mut source, Err(Failed));
-    expect_read(&rt, &mut source, Ok(0));
+    expect_read(&rt, &mut source, Ok(2), b"ab..");
+    expect_read(&rt, &mut source, Err(Failed), b"....");
+    expect_read(&rt, &mut source, Ok(1), b"c...");
+    expect_read(&rt, &mut source, Ok(0), b"....");
     assert!(rt; source.faults() == 1);
 }
 
 /// Asserts what a write answers.
 fn expect_write(
     rt: &impl Abort,
-    sink: &mut Writing<Answers>,
+    sink: &mut Writing<Takes<'_>>,
     bytes: &[u8],
     wanted: Result<usize, Failed>,
 ) {
@@ -91,14 +129,17 @@ fn expect_write(
 
 #[test]
 fn an_error_of_a_write_or_a_write_of_no_bytes_is_a_fault(rt: HostRuntime) {
-    let mut sink = Writing::new(Answers {
-        counts: [Some(2), None, Some(0)],
-        calls: 0,
+    let taken = Cell::new(0);
+    let mut sink = Writing::new(Takes {
+        counts: Counts::new([Some(2), None, Some(0), Some(1)]),
+        taken: &taken,
     });
     expect_write(&rt, &mut sink, b"abc", Ok(2));
     expect_write(&rt, &mut sink, b"c", Err(Failed));
     expect_write(&rt, &mut sink, b"c", Err(Failed));
+    expect_write(&rt, &mut sink, b"c", Ok(1));
     assert!(rt; sink.faults() == 2);
+    assert_eq!(rt; taken.get(), u64::from_be_bytes(*b"\0\0\0\0\0abc"));
 }
 
 #[test]
