@@ -1,11 +1,13 @@
 # Sourced, with `top` naming the repository: what stands in out/, and whether it is of today's sources. There are two programs, which
 # are built together: wursthatch, and wursthatch-look of the crate wursthatch_look.
+# shellcheck shell=sh disable=SC2154,SC3013 # (who sources it sets what isn't set here; -nt is no standard, but in each shell)
 program=$top/out/wursthatch
 
 # Whether a proved program is kept of which no source is newer. ./wursthatch asks this before each run, so it is done by the shell
 # alone. What a program does hangs on src/ of its crates: an edit of specs/ or proofs/ alone calls for no other program.
 is_built() {
     [ -x "$program" ] && [ -r "$top/out/sources" ] || return 1
+    # shellcheck source=/dev/null
     . "$top/out/sources"
     for file in $sources; do
         [ "$top/$file" -nt "$program" ] && return 1

@@ -1,5 +1,6 @@
 # Sourced by a launcher where nothing proved is kept of today's sources, with the words of the run: runs the code unproved. `name` is the
 # launcher's, `crate` the program's, and `usage` the file of what the program says where the words are no command's.
+# shellcheck shell=sh disable=SC2154,SC3013 # (who sources it sets what isn't set here; -ef is no standard, but in each shell)
 
 say() { echo "$name: $*" >&2; }
 
