@@ -13,19 +13,19 @@ use Rattle.circuit_l4.specs.Laws.{followed_by, after_inputs}
 use Rattle.circuit_l4.specs.Table.{Input, Arrive, step}
 use Rattle.circuit_set.specs.Lines.{Elem, count_from}
 use Rattle.circuit_set.specs.Circuits.{ComesInTime, Flight, IsCall, PairOk, Side, comes, hear, heard_it, hear_text, now_at}
-use Rattle.circuit_set.specs.Sets.{heeds, Call, Closes, Holder, SetState, Takes, Ticks, Heeded, Writes, accept_again, end_of, goes_to, input_of, is_over, told_by}
-use Rattle.circuit_set.specs.Events.{Name, is_copy, same_name}
+use Rattle.circuit_table.specs.Sets.{heeds, Call, Closes, Holder, SetState, Takes, Ticks, Heeded, Writes, accept_again, end_of, goes_to, input_of, is_over, told_by}
+use Rattle.circuit_table.specs.Events.{Name, is_copy, same_name}
 use Rattle.circuit_set.specs.NotedRuns.{Net, allowance, allowance_at, opened_window, partner_allowance, told_to}
 use Rattle.circuit_set.specs.Books.{was_asked, Book, HeardNote, SentNote, TimelyTo, has, heard_number, heard_sending, is_number, latest_by, latest_in, with_event, with_events, overtakers, partner}
-use Rattle.circuit_set.specs.Runs.{end_in, events_at}
+use Rattle.circuit_table.specs.Runs.{end_in, events_at}
 use Rattle.circuit_set.proofs.Bridge.{TopAt, WasSent, bridge, heard_of}
 use Rattle.circuit_set.proofs.Copies.{copy_reads}
 use Rattle.circuit_set.proofs.Lookups.{partner_asked, hears, hears_not}
 use Rattle.circuit_set.proofs.Pasts.{Found, find_latest}
 use Rattle.circuit_set.proofs.Asks.{AskOf, Asks, step_asks}
 use Rattle.circuit_set.proofs.Grown.{step_grows}
-use Rattle.circuit_set.proofs.Names.{SameEnd, arrival_same, call_names}
-use Rattle.circuit_set.proofs.Choices.{Named, names}
+use Rattle.circuit_table.proofs.Names.{SameEnd, arrival_same, call_names}
+use Rattle.circuit_table.proofs.Choices.{Named, names}
 use Rattle.circuit_set.proofs.Lonely.{nobody}
 use Rattle.circuit_set.proofs.Noting.{told_noted}
 use Rattle.circuit_set.proofs.Whole.{accepts_ok, comes_ok, does_ok}

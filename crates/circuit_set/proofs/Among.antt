@@ -2,7 +2,7 @@
 use Rattle.std.specs.Prelude.{◌≡◌, ◌⊎◌, List, [], ◌∷◌, ◌++◌, refl}
 use Rattle.std.proofs.Common.{sym, ◌∙◌, ap, subst, inl, inr, append_assoc, append-nil}
 use Rattle.circuit_set.specs.TooLate.{Has, Last}
-use Rattle.circuit_set.specs.Events.{Event}
+use Rattle.circuit_table.specs.Events.{Event}
 
 -- ---- splits of a list with one more ----
 pub none_split : {A : Type 0} (p q : List A) (f : A) → [] ≡ p ++ f ∷ q → ⊥

@@ -9,11 +9,11 @@ use Rattle.circuit_l4.specs.declared.pair.Pair.{Pair}
 use Rattle.circuit_l4.specs.declared.notice.EndNotice.{EndNotice}
 use Rattle.circuit_l4.specs.State.{State}
 use Rattle.circuit_set.specs.Books.{HasRequester, MadeNote, NoOther, any_ends, asked_by, has_sent, if_asked, is_unknown, made_last, partner, requester}
-use Rattle.circuit_set.specs.Events.{Name, same_name}
+use Rattle.circuit_table.specs.Events.{Name, same_name}
 use Rattle.circuit_set.specs.NotedRuns.{Net, end_at, told_to}
 use Rattle.circuit_set.specs.Returning.{IsReturn}
-use Rattle.circuit_set.specs.Runs.{end_in}
-use Rattle.circuit_set.specs.Sets.{Act, Holder, SetState, asked_with, end_of, first_open, has_ended, is_open, opened_by, same_pair}
+use Rattle.circuit_table.specs.Runs.{end_in}
+use Rattle.circuit_table.specs.Sets.{Act, Holder, SetState, asked_with, end_of, first_open, has_ended, is_open, opened_by, same_pair}
 use Rattle.circuit_set.proofs.Bridge.{name_itself, same_names}
 use Rattle.circuit_set.proofs.Cases.{Opener}
 use Rattle.circuit_set.proofs.Copies.{same_calls}
@@ -23,7 +23,7 @@ use Rattle.circuit_set.proofs.Invariant.{Lived}
 use Rattle.circuit_set.proofs.Knowing.{Asker, Known, MadeOk, Opened, asker_of, sender_of}
 use Rattle.circuit_set.proofs.Lookups.{InEnds}
 use Rattle.circuit_set.proofs.Leaving.{GoneEnded}
-use Rattle.circuit_set.proofs.Making.{same_pairs}
+use Rattle.circuit_table.proofs.Making.{same_pairs}
 use Rattle.circuit_set.proofs.NewName.{call_itself}
 use Rattle.circuit_set.proofs.Partners.{Partner, of_made, partner_of}
 use Rattle.circuit_set.proofs.Retries.{AllLive}

@@ -3,10 +3,10 @@ use Rattle.std.specs.Prelude.{◌≡◌, ℕ, suc, ◌+◌, ◌-◌, ◌*◌, �
 use Rattle.std.proofs.Common.{sym, ◌∙◌, ap, subst, inl, inr, arith, append_assoc, length-append}
 use Rattle.circuit_l4.specs.declared.pair.Pair.{Pair}
 use Rattle.circuit_set.specs.Books.{Book, Fresh, FreshTold, HasRequester, MadeNote, NoOther, SentNote, Timely, TimelyTo, TimelyTold, any_ends, empty, is_lost, is_unknown, latest_in, overtakers, partner_in, was_asked, lost_in}
-use Rattle.circuit_set.specs.Events.{Event, Name}
+use Rattle.circuit_table.specs.Events.{Event, Name}
 use Rattle.circuit_set.specs.NotedRuns.{allowance, allowance_at, opened_window, partner_allowance, told_to}
 use Rattle.circuit_set.specs.ByBook.{FreshByBook, PartnersByBook, TimelyBy128, TimelyByBook}
-use Rattle.circuit_set.specs.Sets.{CircuitTold, Made, Sent, Heeded, Notice, Gone, Restarted, Lost}
+use Rattle.circuit_table.specs.Sets.{CircuitTold, Made, Sent, Heeded, Notice, Gone, Restarted, Lost}
 use Rattle.circuit_set.specs.TooLate.{Allowing, AllowsByWindow, Gives, InTime, IsFresh, IsNew, IsOpen, IsTimely, OpenedWith, Tells, allows_fixed}
 use Rattle.circuit_set.proofs.Among.{by_snoc, none_split, snoc_split}
 use Rattle.circuit_set.proofs.Joined.{asked_marks, asks, has_none, is_free, partner_looks, requested, requests, unknown_none}

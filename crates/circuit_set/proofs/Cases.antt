@@ -20,18 +20,18 @@ use Rattle.circuit_l4.specs.Laws as laws
 use Rattle.circuit_l4.specs.Laws.{Accepts, Asks}
 use Rattle.circuit_l4.specs.Table.{Arrive, step}
 use Rattle.circuit_l4.specs.Opening.{facts_of, requesting, responding}
-use Rattle.circuit_set.specs.Sets.{heeds, Act, Call, Writes, Ticks, Closes, Takes, Calls, Comes, Connect, ConnectFor, Discard, Restart, Sent, Heeded, Gone, Holder, SetDone, SetState, accept_again, arrives_at, after_call, datagram_to, after_discarding, end_of, first_open, goes_to, hands_to, after_datagram, has_ended, input_of, is_full, is_open, makes_end, named_by, new_pair, opened_by, read_as, after_transport, after_new_request, requests_for, responds, set_step, does_nothing, with_end}
+use Rattle.circuit_table.specs.Sets.{heeds, Act, Call, Writes, Ticks, Closes, Takes, Calls, Comes, Connect, ConnectFor, Discard, Restart, Sent, Heeded, Gone, Holder, SetDone, SetState, accept_again, arrives_at, after_call, datagram_to, after_discarding, end_of, first_open, goes_to, hands_to, after_datagram, has_ended, input_of, is_full, is_open, makes_end, named_by, new_pair, opened_by, read_as, after_transport, after_new_request, requests_for, responds, set_step, does_nothing, with_end}
 use Rattle.circuit_set.specs.NotedRuns.{opened_window}
 use Rattle.circuit_set.specs.Books.{any_ends}
-use Rattle.circuit_set.specs.Givings.{IsUp}
+use Rattle.circuit_table.specs.Givings.{IsUp}
 use Rattle.circuit_set.proofs.Acts.{lives_on, lives_same}
-use Rattle.circuit_set.proofs.Names.{call_names, AcceptsNone, SameEnd, arrival_same}
+use Rattle.circuit_table.proofs.Names.{call_names, AcceptsNone, SameEnd, arrival_same}
 use Rattle.circuit_set.proofs.Asks as asking
 use Rattle.circuit_set.proofs.Ended.{Ends, SendsOn, accept_opens, step_ends, step_sends_on}
 use Rattle.circuit_set.proofs.Invariant.{Lived}
 use Rattle.circuit_set.proofs.Lookups.{InEnds, open_found}
-use Rattle.circuit_set.proofs.Choices.{Named}
-use Rattle.circuit_set.proofs.Origins.{origin_read}
+use Rattle.circuit_table.proofs.Choices.{Named}
+use Rattle.circuit_table.proofs.Origins.{origin_read}
 
 -- ---- the numbers of ends ----
 -- none has this number

@@ -5,12 +5,12 @@ use Rattle.std.proofs.Common.{sym, ◌∙◌, ap, subst, inl, inr, arith}
 use Rattle.std.proofs.lemmas.Bool.Decides.{nat_tests}
 use Rattle.ax_address.specs.Callsign.{Callsign}
 use Rattle.circuit_l4.specs.declared.pair.Pair.{Pair}
-use Rattle.circuit_set.specs.Events.{Event}
-use Rattle.circuit_set.specs.Givings.{IsUp, StaysUp, pairs_made}
-use Rattle.circuit_set.specs.Pumps.{runs}
+use Rattle.circuit_table.specs.Events.{Event}
+use Rattle.circuit_table.specs.Givings.{IsUp, StaysUp, pairs_made}
+use Rattle.circuit_table.specs.Pumps.{runs}
 use Rattle.circuit_set.specs.Returning.{given_by, told_at_node}
-use Rattle.circuit_set.specs.Runs.{AreStarts, IsStart, Step, events_at, events_of, sets_at, told_at}
-use Rattle.circuit_set.specs.Sets.{Act, SetState, CircuitTold, held_pairs, set_step}
+use Rattle.circuit_table.specs.Runs.{AreStarts, IsStart, Step, events_at, events_of, sets_at, told_at}
+use Rattle.circuit_table.specs.Sets.{Act, SetState, CircuitTold, held_pairs, set_step}
 use Rattle.circuit_set.proofs.Given.{made_append, made_differ}
 use Rattle.circuit_set.proofs.Lookups.{set_other, set_same}
 use Rattle.circuit_set.proofs.Safe.{starts_at}

@@ -19,12 +19,12 @@ use Rattle.circuit_l4.specs.Moves.{acknowledge, again, answer, answer_all, wait_
 use Rattle.circuit_l4.specs.Laws.{Accepts, Asks, IsNew, after_inputs, followed_by}
 use Rattle.circuit_l4.specs.Table.{Input, Write, Arrive, Tick, Close, Take, arrive_in, ask_by, close_in_turn, due_in, expire, note_activity, is_due, may_close, unchoke, common_window, come_up, resume_by, retry, retry_in, step, step_at, take_from, write_answer, write}
 use Rattle.circuit_set.specs.Books.{any_ends}
-use Rattle.circuit_set.specs.Events.{ends_it}
+use Rattle.circuit_table.specs.Events.{ends_it}
 use Rattle.circuit_set.specs.NotedRuns.{opened_window}
-use Rattle.circuit_set.specs.Sets.{has_ended}
-use Rattle.circuit_set.proofs.Lasting.{Core, acknowledges, fills as fill_keeps, if_out}
-use Rattle.circuit_set.proofs.Names.{AcceptsNone, is_accept, step_same}
-use Rattle.circuit_set.proofs.Choices.{Named, either_going}
+use Rattle.circuit_table.specs.Sets.{has_ended}
+use Rattle.circuit_table.proofs.Lasting.{Core, acknowledges, fills as fill_keeps, if_out}
+use Rattle.circuit_table.proofs.Names.{AcceptsNone, is_accept, step_same}
+use Rattle.circuit_table.proofs.Choices.{Named, either_going}
 
 -- it tells how its circuit ended
 record IsLast (g : Effect) : Type 0 where

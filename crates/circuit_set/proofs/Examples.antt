@@ -5,11 +5,11 @@ use Rattle.l3_datagram.specs.Datagrams.{head_at}
 use Rattle.circuit_l4.specs.declared.notice.EndNotice.TheVariants.{Opened}
 use Rattle.circuit_l4.specs.Transports as reading
 use Rattle.circuit_l4.specs.Transports.{transport_at}
-use Rattle.circuit_set.specs.Sets.{Holder}
+use Rattle.circuit_table.specs.Sets.{Holder}
 use Rattle.circuit_set.specs.Books.{Fresh, MadeNote, Timely, empty, is_unknown, partner_in}
-use Rattle.circuit_set.specs.Events.{Event, Name}
+use Rattle.circuit_table.specs.Events.{Event, Name}
 use Rattle.circuit_set.specs.NotedRuns.{Net, allowance_at, begins, end_at, net_run}
-use Rattle.circuit_set.specs.Runs.{events_of}
+use Rattle.circuit_table.specs.Runs.{events_of}
 use Rattle.circuit_set.specs.Safe.{IsSafe, Safe, SafeAlone}
 use Rattle.circuit_set.proofs.Joined.{has_none}
 use Rattle.circuit_set.proofs.Noted.{book}

@@ -16,12 +16,12 @@ use Rattle.circuit_l4.specs.Laws.{FailsAfterRetries}
 use Rattle.circuit_l4.specs.Table.{Arrive, Input, step}
 use Rattle.circuit_l4.specs.Expiries as ends
 use Rattle.circuit_l4.specs.Expiries.{Moment, expiries}
-use Rattle.circuit_set.specs.Sets.{Act, Call, Calls, Closes, Comes, Connect, ConnectFor, Discard, Restart, Takes, Ticks, Writes, Made, Sent, Heeded, Gone, Restarted, Holder, SetDone, SetState, datagram_to, end_of, goes_to, holder_of, input_of, is_over, losses, makes_end, new_pair, after_restart, set_step, told_by, with_end}
+use Rattle.circuit_table.specs.Sets.{Act, Call, Calls, Closes, Comes, Connect, ConnectFor, Discard, Restart, Takes, Ticks, Writes, Made, Sent, Heeded, Gone, Restarted, Holder, SetDone, SetState, datagram_to, end_of, goes_to, holder_of, input_of, is_over, losses, makes_end, new_pair, after_restart, set_step, told_by, with_end}
 use Rattle.circuit_set.specs.Books.{Book, with_event, with_events}
-use Rattle.circuit_set.specs.Events.{Name}
+use Rattle.circuit_table.specs.Events.{Name}
 use Rattle.circuit_set.specs.NotedRuns.{Net, begins, end_at, net_run, net_step, told_to}
-use Rattle.circuit_set.specs.Runs.{AreStarts, AreSteps, Step, expiries_in, moment_between, end_in, events_at, moments, sets_at, tick_at, tick_by, tick_of, told_at}
-use Rattle.circuit_set.specs.Givings.{IsUp}
+use Rattle.circuit_table.specs.Runs.{AreStarts, AreSteps, Step, expiries_in, moment_between, end_in, events_at, moments, sets_at, tick_at, tick_by, tick_of, told_at}
+use Rattle.circuit_table.specs.Givings.{IsUp}
 use Rattle.circuit_set.proofs.Acts.{set_self}
 use Rattle.circuit_set.proofs.Bridge.{name_itself}
 use Rattle.circuit_set.proofs.Cases.{Every, Idle, IsNew, MadeBy, MovedBy, NoCall, asked_quiet, step_every}

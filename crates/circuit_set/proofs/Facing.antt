@@ -2,11 +2,11 @@
 use Rattle.std.specs.Prelude.{◌≡◌, List, [], ◌∷◌, slice_get, Option, Some, None, refl}
 use Rattle.std.proofs.Common.{subst, inl, inr}
 use Rattle.circuit_set.specs.Books.{MadeNote, with_events, partner}
-use Rattle.circuit_set.specs.Events.{Name}
+use Rattle.circuit_table.specs.Events.{Name}
 use Rattle.circuit_set.specs.NotedRuns.{Net, begins, net_run, net_step}
 use Rattle.circuit_set.specs.Facing.{Faces, PartnersFace}
-use Rattle.circuit_set.specs.Runs.{AreSteps, IsAct, Step, sets_at, told_at}
-use Rattle.circuit_set.specs.Sets.{SetState}
+use Rattle.circuit_table.specs.Runs.{AreSteps, IsAct, Step, sets_at, told_at}
+use Rattle.circuit_table.specs.Sets.{SetState}
 use Rattle.circuit_set.proofs.Knowing.{Known, MadeOk, Opened}
 use Rattle.circuit_set.proofs.Learning.{start_known, step_known}
 use Rattle.circuit_set.proofs.Partners.{Partner, of_made, partner_of}

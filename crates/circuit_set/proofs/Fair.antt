@@ -2,10 +2,10 @@
 use Rattle.std.specs.Prelude.{◌≡◌, ◌≢◌, ℕ, suc, ◌<◌, ◌⊎◌, Bool, true, false, not, ◌&&◌, ◌||◌, if◌then◌else◌, List, [], ◌∷◌, ◌++◌, length, slice_get, Contains, Some, refl}
 use Rattle.std.proofs.Common.{sym, ◌∙◌, ap, subst, inl, inr, arith}
 use Rattle.circuit_l4.specs.declared.notice.EndNotice.{EndNotice}
-use Rattle.circuit_set.specs.Pairs.{IsPair}
-use Rattle.circuit_set.specs.Sets.{Holder, SetState, has_ended, is_open}
+use Rattle.circuit_table.specs.Pairs.{IsPair}
+use Rattle.circuit_table.specs.Sets.{Holder, SetState, has_ended, is_open}
 use Rattle.circuit_set.specs.Books.{MadeNote, any_ends, is_lost, partner_in, with_notice}
-use Rattle.circuit_set.specs.Events.{Name, same_name}
+use Rattle.circuit_table.specs.Events.{Name, same_name}
 use Rattle.circuit_set.specs.NotedRuns.{Net, end_at, told_to}
 use Rattle.circuit_set.proofs.Bridge.{same_names}
 use Rattle.circuit_set.proofs.Ended.{any_append}

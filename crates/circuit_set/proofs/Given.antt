@@ -8,12 +8,12 @@ use Rattle.circuit_l4.specs.declared.pair.Pair.{Pair}
 use Rattle.circuit_l4.specs.declared.notice.EndNotice.{EndNotice}
 use Rattle.circuit_l4.specs.State.{Effect, Out, inbox}
 use Rattle.circuit_l4.specs.Opening.{facts_of}
-use Rattle.circuit_set.specs.Pairs.{Change, EndMade, Giving, EndGone, pair_after, after_giving, pair_given, pairs_given, without}
-use Rattle.circuit_set.specs.Pairs as pairs
-use Rattle.circuit_set.specs.Sets.{Act, Calls, Comes, Connect, ConnectFor, Discard, Restart, Made, Sent, Heeded, Notice, Gone, Restarted, Lost, Holder, SetDone, SetState, CircuitTold, all_gone, end_of, held_pairs, holder_of, is_over, makes_end, new_pair, notices, after_restart, sendings, set_step, after_effect, told_by, with_end}
-use Rattle.circuit_set.specs.Pumps.{runs}
-use Rattle.circuit_set.specs.Runs.{IsStart}
-use Rattle.circuit_set.specs.Givings.{GivenBy, MadeAreGiven, MadeDiffer, StaysUp, after_changes, giving, pairs_made}
+use Rattle.circuit_table.specs.Pairs.{Change, EndMade, Giving, EndGone, pair_after, after_giving, pair_given, pairs_given, without}
+use Rattle.circuit_table.specs.Pairs as pairs
+use Rattle.circuit_table.specs.Sets.{Act, Calls, Comes, Connect, ConnectFor, Discard, Restart, Made, Sent, Heeded, Notice, Gone, Restarted, Lost, Holder, SetDone, SetState, CircuitTold, all_gone, end_of, held_pairs, holder_of, is_over, makes_end, new_pair, notices, after_restart, sendings, set_step, after_effect, told_by, with_end}
+use Rattle.circuit_table.specs.Pumps.{runs}
+use Rattle.circuit_table.specs.Runs.{IsStart}
+use Rattle.circuit_table.specs.Givings.{GivenBy, MadeAreGiven, MadeDiffer, StaysUp, after_changes, giving, pairs_made}
 use Rattle.circuit_set.proofs.Cases.{Apart, Cases, IsNew, Once, found, step_cases}
 use Rattle.circuit_set.proofs.Lookups.{InEnds}
 use Rattle.circuit_set.proofs.Pairs.{pairs_differ}

@@ -3,11 +3,11 @@ use Rattle.std.specs.Prelude.{◌≡◌, ℕ, zero, suc, ◌≤◌, Bool, true, 
 use Rattle.std.proofs.Common.{sym, subst, arith, length-append}
 use Rattle.std.proofs.lemmas.Bool.Decides.{nat_tests}
 use Rattle.circuit_l4.specs.declared.pair.Pair.{Pair}
-use Rattle.circuit_set.specs.Givings.{GivenBy, IsUp, after_changes, giving}
-use Rattle.circuit_set.specs.Pumps.{runs}
-use Rattle.circuit_set.specs.Kept.{HoldsFew}
-use Rattle.circuit_set.specs.Pairs.{Change, EndMade, Giving, EndGone, after_giving, pair_given, is_full, without}
-use Rattle.circuit_set.specs.Sets.{Act, Calls, Comes, Connect, ConnectFor, Discard, Restart, Holder, SetState, all_gone, held_pairs, set_step}
+use Rattle.circuit_table.specs.Givings.{GivenBy, IsUp, after_changes, giving}
+use Rattle.circuit_table.specs.Pumps.{runs}
+use Rattle.circuit_table.specs.Kept.{HoldsFew}
+use Rattle.circuit_table.specs.Pairs.{Change, EndMade, Giving, EndGone, after_giving, pair_given, is_full, without}
+use Rattle.circuit_table.specs.Sets.{Act, Calls, Comes, Connect, ConnectFor, Discard, Restart, Holder, SetState, all_gone, held_pairs, set_step}
 use Rattle.circuit_set.proofs.Given.{Numbers, runs_given, start_numbers, step_numbers}
 
 without_few : (n : ℕ) (ps : List Pair) → length (without n ps) ≤ length ps

@@ -13,11 +13,11 @@ use Rattle.circuit_l4.specs.State.{Out}
 use Rattle.circuit_l4.specs.Spelling.{IsTransport}
 use Rattle.circuit_l4.specs.Transports.{transport_at, pair_at, transport_octets}
 use Rattle.circuit_set.specs.Books.{MadeNote, SentNote, has_sent}
-use Rattle.circuit_set.specs.Events.{Name, is_copy, same_name}
+use Rattle.circuit_table.specs.Events.{Name, is_copy, same_name}
 use Rattle.circuit_set.specs.NotedRuns.{Net, end_at}
 use Rattle.circuit_set.specs.Facing.{IsCallOf}
 use Rattle.circuit_set.specs.Returning.{CallsDiffer}
-use Rattle.circuit_set.specs.Sets.{Holder, SetState, datagram_to}
+use Rattle.circuit_table.specs.Sets.{Holder, SetState, datagram_to}
 use Rattle.circuit_set.proofs.Asks.{AskOf, Asks}
 use Rattle.circuit_set.proofs.Bridge.{same_names}
 use Rattle.circuit_set.proofs.Copies.{Reads, Spelled, copy_carries, copy_reads}

@@ -14,13 +14,13 @@ use Rattle.circuit_l4.specs.declared.role.Role.TheVariants.{Responder}
 use Rattle.circuit_l4.specs.State.{Effect, State}
 use Rattle.circuit_l4.specs.Opening.{facts_of}
 use Rattle.circuit_set.specs.Books.{Book, MadeNote, asked_by, has_sent, if_asked, is_unknown, made_last, with_event, with_events, partner, requester}
-use Rattle.circuit_set.specs.Events.{Name}
+use Rattle.circuit_table.specs.Events.{Name}
 use Rattle.circuit_set.specs.NotedRuns.{Net, begins, end_at}
 use Rattle.circuit_set.specs.Facing.{IsCallOf}
-use Rattle.circuit_set.specs.Givings.{IsUp}
+use Rattle.circuit_table.specs.Givings.{IsUp}
 use Rattle.circuit_set.specs.Returning.{CallsDiffer}
-use Rattle.circuit_set.specs.Runs.{AreStarts, IsAct, IsStart, events_at}
-use Rattle.circuit_set.specs.Sets.{Act, Connect, ConnectFor, Comes, Calls, Discard, Restart, Made, Sent, Heeded, Gone, Restarted, Holder, SetDone, SetState, datagram_to, end_of, goes_to, has_ended, holder_of, is_over, losses, makes_end, new_pair, after_restart, set_step, told_by, with_end}
+use Rattle.circuit_table.specs.Runs.{AreStarts, IsAct, IsStart, events_at}
+use Rattle.circuit_table.specs.Sets.{Act, Connect, ConnectFor, Comes, Calls, Discard, Restart, Made, Sent, Heeded, Gone, Restarted, Holder, SetDone, SetState, datagram_to, end_of, goes_to, has_ended, holder_of, is_over, losses, makes_end, new_pair, after_restart, set_step, told_by, with_end}
 use Rattle.circuit_l4.specs.Transports.{pair_at}
 use Rattle.circuit_set.proofs.Acts.{set_self}
 use Rattle.circuit_set.proofs.Asks.{Asks}
@@ -37,8 +37,8 @@ use Rattle.circuit_set.proofs.Restarts.{gone_of, noted_losses}
 use Rattle.circuit_set.proofs.Safe.{none_case, starts_at}
 use Rattle.circuit_set.proofs.Stepped as stepped
 use Rattle.circuit_set.proofs.Stepped.{same_holder}
-use Rattle.circuit_set.proofs.Names.{SameEnd}
-use Rattle.circuit_set.proofs.Origins.{origin_read}
+use Rattle.circuit_table.proofs.Names.{SameEnd}
+use Rattle.circuit_table.proofs.Origins.{origin_read}
 use Rattle.circuit_set.proofs.Unrepeated.{each, each_noticed}
 use Rattle.circuit_set.proofs.Written.{RoleSpeaks}
 

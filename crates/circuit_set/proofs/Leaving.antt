@@ -5,11 +5,11 @@ use Rattle.ax_address.specs.Callsign.{Callsign}
 use Rattle.circuit_l4.specs.declared.pair.Pair.{Pair}
 use Rattle.circuit_l4.specs.State.{Effect, State, inbox}
 use Rattle.circuit_set.specs.Books.{Book, with_events}
-use Rattle.circuit_set.specs.Events.{Name}
+use Rattle.circuit_table.specs.Events.{Name}
 use Rattle.circuit_set.specs.NotedRuns.{Net, begins, end_at}
-use Rattle.circuit_set.specs.Givings.{IsUp}
-use Rattle.circuit_set.specs.Runs.{AreStarts, events_at}
-use Rattle.circuit_set.specs.Sets.{Act, Holder, SetDone, SetState, end_of, has_ended, holder_of, is_over, makes_end, set_step, with_end}
+use Rattle.circuit_table.specs.Givings.{IsUp}
+use Rattle.circuit_table.specs.Runs.{AreStarts, events_at}
+use Rattle.circuit_table.specs.Sets.{Act, Holder, SetDone, SetState, end_of, has_ended, holder_of, is_over, makes_end, set_step, with_end}
 use Rattle.circuit_set.proofs.Acts.{set_self}
 use Rattle.circuit_set.proofs.Cases.{step_every}
 use Rattle.circuit_set.proofs.Given.{Numbers, none_of, one}

@@ -8,11 +8,11 @@ use Rattle.circuit_l4.specs.declared.role.Role.TheVariants.{Responder}
 use Rattle.circuit_l4.specs.State.{Effect, State}
 use Rattle.circuit_set.specs.Lines.{Elem}
 use Rattle.circuit_set.specs.Circuits.{PairOk, tag_on}
-use Rattle.circuit_set.specs.Events.{Name, same_name}
+use Rattle.circuit_table.specs.Events.{Name, same_name}
 use Rattle.circuit_set.specs.NotedRuns.{Net, end_at, opened_window, told_to}
-use Rattle.circuit_set.specs.Sets.{Holder, SetState, datagram_to, end_of}
+use Rattle.circuit_table.specs.Sets.{Holder, SetState, datagram_to, end_of}
 use Rattle.circuit_set.specs.Books.{is_unknown, was_asked, Book, MadeNote, first_name, has, is_some_name, partner, partner_in}
-use Rattle.circuit_set.specs.Runs.{end_in}
+use Rattle.circuit_table.specs.Runs.{end_in}
 use Rattle.circuit_set.proofs.Bridge.{TopAt, heard_of, name_itself, same_names}
 use Rattle.circuit_set.proofs.Pasts.{AllOf, AllSpelled, InPast, IsNew, Noted, Numbered, Past, after_outs, flights_of, flights_other, flights_same, has_kept, has_put, held_put, in_put, noted_put, outs_rise, put_past, tops_kept}
 use Rattle.circuit_set.proofs.Asks.{AskOf}

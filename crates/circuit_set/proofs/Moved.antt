@@ -11,11 +11,11 @@ use Rattle.circuit_l4.specs.State.{Effect, Out, State}
 use Rattle.circuit_l4.specs.Table.{common_window}
 use Rattle.circuit_set.specs.Lines.{Elem}
 use Rattle.circuit_set.specs.Circuits.{Facts, Flight, PairOk, Side, now_at, tag_on}
-use Rattle.circuit_set.specs.Events.{Name, same_name}
+use Rattle.circuit_table.specs.Events.{Name, same_name}
 use Rattle.circuit_set.specs.NotedRuns.{Net, end_at, opened_window, told_to}
-use Rattle.circuit_set.specs.Sets.{Holder, SetState, datagram_to, end_of, with_end}
+use Rattle.circuit_table.specs.Sets.{Holder, SetState, datagram_to, end_of, with_end}
 use Rattle.circuit_set.specs.Books.{was_asked, Book, has, partner, partner_in}
-use Rattle.circuit_set.specs.Runs.{end_in}
+use Rattle.circuit_table.specs.Runs.{end_in}
 use Rattle.circuit_set.proofs.Bridge.{TopAt, heard_of, name_itself, same_names}
 use Rattle.circuit_set.proofs.Pasts.{AllOf, AllSpelled, InPast, IsNew, Noted, Numbered, Past, flights_of, flights_other, flights_same, after_outs, has_kept, held_put, has_put, in_put, noted_put, put_past, put_sents, outs_rise, tops_kept}
 use Rattle.circuit_set.proofs.Asks.{AskOf, Asks}

@@ -8,12 +8,12 @@ use Rattle.circuit_l4.specs.declared.pair.Pair.{Pair}
 use Rattle.circuit_l4.specs.declared.notice.EndNotice.{EndNotice}
 use Rattle.circuit_l4.specs.State.{Effect, Out, State}
 use Rattle.circuit_l4.specs.Opening.{facts_of}
-use Rattle.circuit_set.specs.Pairs.{IsPair, is_used}
-use Rattle.circuit_set.specs.Sets.{Act, Calls, Comes, Connect, ConnectFor, Discard, Restart, Made, Sent, Heeded, Notice, Gone, Restarted, Lost, Holder, SetDone, SetState, CircuitTold, all_gone, end_of, goes_to, has_ended, held_pairs, holder_of, is_over, losses, makes_end, new_pair, notices, after_restart, sendings, set_step, told_by, with_end}
+use Rattle.circuit_table.specs.Pairs.{IsPair, is_used}
+use Rattle.circuit_table.specs.Sets.{Act, Calls, Comes, Connect, ConnectFor, Discard, Restart, Made, Sent, Heeded, Notice, Gone, Restarted, Lost, Holder, SetDone, SetState, CircuitTold, all_gone, end_of, goes_to, has_ended, held_pairs, holder_of, is_over, losses, makes_end, new_pair, notices, after_restart, sendings, set_step, told_by, with_end}
 use Rattle.circuit_set.specs.Books.{Book, FreshFrom, any_ends, is_lost, lost_with, with_event, with_events, partner_in, requester}
-use Rattle.circuit_set.specs.Events.{Event, Name, same_name}
+use Rattle.circuit_table.specs.Events.{Event, Name, same_name}
 use Rattle.circuit_set.specs.NotedRuns.{Net, begins, end_at, net_run, net_step, told_to}
-use Rattle.circuit_set.specs.Runs.{AreStarts, AreSteps, IsAct, IsStart, Step, end_in, events_at, events_of, sets_at, told_at}
+use Rattle.circuit_table.specs.Runs.{AreStarts, AreSteps, IsAct, IsStart, Step, end_in, events_at, events_of, sets_at, told_at}
 use Rattle.circuit_set.specs.Naming.{PairNamesOne}
 use Rattle.circuit_set.proofs.Acts.{set_self}
 use Rattle.circuit_set.proofs.Bridge.{same_names}
@@ -29,7 +29,7 @@ use Rattle.circuit_set.proofs.Restarts.{gone_of, is_end, noted_losses}
 use Rattle.circuit_set.proofs.Safe.{none_case, starts_at}
 use Rattle.circuit_set.proofs.Stepped as stepped
 use Rattle.circuit_set.proofs.Stepped.{Onto, onto_itself}
-use Rattle.circuit_set.proofs.Names.{SameEnd}
+use Rattle.circuit_table.proofs.Names.{SameEnd}
 use Rattle.circuit_set.proofs.Unused.{following_ok, next_ok, next_unused}
 
 -- ---- who is lost ----

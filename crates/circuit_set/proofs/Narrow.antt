@@ -17,16 +17,16 @@ use Rattle.circuit_l4.specs.State.{Effect, Out}
 use Rattle.circuit_l4.specs.Table.{Arrive, common_window, step}
 use Rattle.circuit_l4.specs.Opening.{facts_of, requesting, responding}
 use Rattle.circuit_l4.specs.Transports.{transport_at}
-use Rattle.circuit_set.specs.Sets.{heeds, Act, Call, Calls, Comes, Connect, ConnectFor, Discard, Restart, Holder, SetDone, SetState, CircuitTold, Made, Sent, Heeded, Notice, Gone, Restarted, Lost, accept_again, all_gone, after_call, datagram_to, after_discarding, end_of, first_open, goes_to, hands_to, after_datagram, has_ended, holder_of, input_of, is_full, is_over, losses, makes_end, named_by, new_pair, notices, opened_by, read_as, after_transport, after_new_request, requests, requests_for, responds, sendings, set_step, after_effect, told_by, does_nothing, with_end}
-use Rattle.circuit_set.specs.Events.{Event, Name}
+use Rattle.circuit_table.specs.Sets.{heeds, Act, Call, Calls, Comes, Connect, ConnectFor, Discard, Restart, Holder, SetDone, SetState, CircuitTold, Made, Sent, Heeded, Notice, Gone, Restarted, Lost, accept_again, all_gone, after_call, datagram_to, after_discarding, end_of, first_open, goes_to, hands_to, after_datagram, has_ended, holder_of, input_of, is_full, is_over, losses, makes_end, named_by, new_pair, notices, opened_by, read_as, after_transport, after_new_request, requests, requests_for, responds, sendings, set_step, after_effect, told_by, does_nothing, with_end}
+use Rattle.circuit_table.specs.Events.{Event, Name}
 use Rattle.circuit_set.specs.NotedRuns.{NarrowIsTimely, Net, allowance_at, begins, net_step}
 use Rattle.circuit_set.specs.Books.{Book, Timely, TimelyTo, TimelyTold, with_event, with_events}
-use Rattle.circuit_set.specs.Runs.{AreNarrow, AreStarts, AreSteps, Step, end_in, events_at, events_of, sets_at, told_at}
-use Rattle.circuit_set.proofs.Choices.{Named}
+use Rattle.circuit_table.specs.Runs.{AreNarrow, AreStarts, AreSteps, Step, end_in, events_at, events_of, sets_at, told_at}
+use Rattle.circuit_table.proofs.Choices.{Named}
 use Rattle.circuit_set.proofs.Lookups.{InEnds, in_changed, in_pushed, open_found, set_other, set_same}
 use Rattle.circuit_set.proofs.Invariant.{CircuitOk, EndInv, Kept, PairInv}
 use Rattle.circuit_set.proofs.Acts.{allow_is}
-use Rattle.circuit_set.proofs.Names.{call_names, arrival_same}
+use Rattle.circuit_table.proofs.Names.{call_names, arrival_same}
 use Rattle.circuit_set.proofs.Opens.{step_kept, timely_parts}
 use Rattle.circuit_set.proofs.Safe.{start_kept}
 

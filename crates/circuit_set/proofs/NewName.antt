@@ -9,12 +9,12 @@ use Rattle.l3_datagram.specs.declared.datagram.DatagramRefusal.{DatagramRefusal}
 use Rattle.l3_datagram.specs.Datagrams.{head_at}
 use Rattle.circuit_l4.specs.declared.pair.Pair.{Pair}
 use Rattle.circuit_l4.specs.Transports.{pair_at}
-use Rattle.circuit_set.specs.Pairs.{IsPair, is_used}
-use Rattle.circuit_set.specs.Sets.{Holder, SetState, end_of, has_ended, held_pairs, is_open, same_pair}
+use Rattle.circuit_table.specs.Pairs.{IsPair, is_used}
+use Rattle.circuit_table.specs.Sets.{Holder, SetState, end_of, has_ended, held_pairs, is_open, same_pair}
 use Rattle.circuit_set.specs.Books.{Book, MadeNote, NoOther, any_ends, asked_by, first_name, has_sent, if_asked, is_lost, is_some_name, is_unknown, made_last, partner, partner_in, requester}
-use Rattle.circuit_set.specs.Events.{Name, same_name}
+use Rattle.circuit_table.specs.Events.{Name, same_name}
 use Rattle.circuit_set.specs.NotedRuns.{Net, end_at, told_to}
-use Rattle.circuit_set.specs.Runs.{end_in}
+use Rattle.circuit_table.specs.Runs.{end_in}
 use Rattle.circuit_set.proofs.Bridge.{name_itself, same_names}
 use Rattle.circuit_set.proofs.Cases.{IsForeign}
 use Rattle.circuit_set.proofs.Copies.{same_calls}

@@ -7,8 +7,8 @@ use Rattle.ax_address.specs.Callsign.{Callsign, same_call}
 use Rattle.circuit_l4.specs.declared.pair.Pair.{Pair}
 use Rattle.circuit_set.specs.TooLate.{Has, Last}
 use Rattle.circuit_set.specs.Books.{Book, Fresh, FreshFrom, Timely, TimelyTold, FreshTold, empty, lost_with, with_event, with_events, lost_in}
-use Rattle.circuit_set.specs.Events.{Event, Name, same_name}
-use Rattle.circuit_set.specs.Sets.{same_pair}
+use Rattle.circuit_table.specs.Events.{Event, Name, same_name}
+use Rattle.circuit_table.specs.Sets.{same_pair}
 use Rattle.circuit_set.proofs.Among.{by_snoc, has_cases, has_last, has_new, has_nothing, has_old, last_cases, last_new, last_old}
 use Rattle.circuit_set.proofs.Bridge.{name_itself}
 use Rattle.circuit_set.proofs.Noting.{noted_append}

@@ -5,9 +5,9 @@ use Rattle.circuit_l4.specs.declared.notice.EndNotice.{EndNotice}
 use Rattle.circuit_l4.specs.declared.notice.EndNotice.TheVariants.{Opened, Refused, Closed, ClosedByPartner, FailedRetries, FailedOversize, FailedInactive}
 use Rattle.circuit_set.specs.TooLate.{First, Has, Ends, OpenedWith, Tells}
 use Rattle.circuit_set.specs.Books.{Fresh, MadeNote, any_ends, empty}
-use Rattle.circuit_set.specs.Events.{Event, Name, ends_it, same_name}
+use Rattle.circuit_table.specs.Events.{Event, Name, ends_it, same_name}
 use Rattle.circuit_set.specs.NotedRuns.{opened_window, told_to}
-use Rattle.circuit_set.specs.Sets.{CircuitTold, Made, Sent, Heeded, Notice, Gone, Restarted, Lost}
+use Rattle.circuit_table.specs.Sets.{CircuitTold, Made, Sent, Heeded, Notice, Gone, Restarted, Lost}
 use Rattle.circuit_set.proofs.Bridge.{same_names}
 use Rattle.circuit_set.proofs.Lookups.{has_note}
 use Rattle.circuit_set.proofs.Noted.{book, name_true, not_both, or_none, or_so}

@@ -18,12 +18,12 @@ use Rattle.circuit_l4.specs.State.{Effect, begin}
 use Rattle.circuit_l4.specs.Laws.{Accepts, Asks as NewAsks}
 use Rattle.circuit_l4.specs.Table.{Arrive, common_window, step}
 use Rattle.circuit_l4.specs.Opening.{requesting, responding}
-use Rattle.circuit_set.specs.Sets.{heeds, Act, Call, Calls, Comes, Connect, ConnectFor, Discard, Restart, after_restart, Holder, SetDone, SetState, Heeded, Sent, accept_again, arrives_at, asked_with, after_call, after_connecting_for, datagram_to, after_discarding, end_of, first_open, goes_to, after_datagram, has_ended, input_of, is_full, is_open, is_over, makes_end, named_by, new_pair, opened_by, read_as, after_transport, same_pair, set_step, told_by, does_nothing}
-use Rattle.circuit_set.specs.Events.{Event, Name, is_copy, same_name}
+use Rattle.circuit_table.specs.Sets.{heeds, Act, Call, Calls, Comes, Connect, ConnectFor, Discard, Restart, after_restart, Holder, SetDone, SetState, Heeded, Sent, accept_again, arrives_at, asked_with, after_call, after_connecting_for, datagram_to, after_discarding, end_of, first_open, goes_to, after_datagram, has_ended, input_of, is_full, is_open, is_over, makes_end, named_by, new_pair, opened_by, read_as, after_transport, same_pair, set_step, told_by, does_nothing}
+use Rattle.circuit_table.specs.Events.{Event, Name, is_copy, same_name}
 use Rattle.circuit_set.specs.NotedRuns.{Net, allowance_at, net_run, net_step}
-use Rattle.circuit_set.specs.Pairs.{pair_after}
+use Rattle.circuit_table.specs.Pairs.{pair_after}
 use Rattle.circuit_set.specs.Books.{Book, MadeNote, SentNote, Timely, asked_by, has_sent, if_asked, is_unknown, made_last, with_event, with_events, partner, partner_in, requester}
-use Rattle.circuit_set.specs.Runs.{AreSteps, IsAct, Step, events_at, events_of, sets_at, told_at}
+use Rattle.circuit_table.specs.Runs.{AreSteps, IsAct, Step, events_at, events_of, sets_at, told_at}
 use Rattle.circuit_set.proofs.Bridge.{name_itself, same_names}
 use Rattle.circuit_set.proofs.Copies.{copy_reads}
 use Rattle.circuit_set.proofs.Lookups.{has_note, open_found}
@@ -32,7 +32,7 @@ use Rattle.circuit_set.proofs.Asks.{AskOf}
 use Rattle.circuit_set.proofs.Noting.{same_partners, told_noted}
 use Rattle.circuit_set.proofs.Rows.{one_note}
 use Rattle.circuit_set.proofs.Sends.{no_notes}
-use Rattle.circuit_set.proofs.Origins.{origin_read}
+use Rattle.circuit_table.proofs.Origins.{origin_read}
 use Rattle.circuit_set.proofs.Invariant.{EndInv, Kept, SetInv}
 use Rattle.circuit_set.proofs.Moved.{moved}
 use Rattle.circuit_set.proofs.Made as making

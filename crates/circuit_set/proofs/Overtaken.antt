@@ -5,8 +5,8 @@ use Rattle.std.proofs.lemmas.Bool.Decides.{nat_tests}
 use Rattle.ax_address.specs.Callsign.{Callsign}
 use Rattle.circuit_set.specs.TooLate.{Has, FirstSent, HeedsFragment, LatestSending, SendsFragment}
 use Rattle.circuit_set.specs.Books.{Book, Fresh, HeardNote, SentNote, empty, first_place, has, heard_number, heard_sending, is_heard, latest_by, latest_in, with_event, with_events, partner_in, sends}
-use Rattle.circuit_set.specs.Events.{Event, Name, same_name}
-use Rattle.circuit_set.specs.Sets.{CircuitTold, Made, Sent, Heeded, Notice, Gone, Restarted, Lost}
+use Rattle.circuit_table.specs.Events.{Event, Name, same_name}
+use Rattle.circuit_table.specs.Sets.{CircuitTold, Made, Sent, Heeded, Notice, Gone, Restarted, Lost}
 use Rattle.circuit_set.proofs.Among.{by_snoc}
 use Rattle.circuit_set.proofs.Bridge.{name_itself, same_names}
 use Rattle.circuit_set.proofs.Noted.{Marks, book, book_more, both_so, both_true, finds, found, fresh_less, marked, marks, names_so, nat_itself, nat_same, neither, not_both, or_none, or_so, or_then}

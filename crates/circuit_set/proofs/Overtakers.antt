@@ -5,9 +5,9 @@ use Rattle.std.specs.Cmp.{IsEquivalence}
 use Rattle.std.proofs.Common.{sym, ◌∙◌, ap, subst, inl, inr, arith}
 use Rattle.std.proofs.lemmas.Map.Made.{length-le_from_is_member}
 use Rattle.circuit_set.specs.Books.{Book, Fresh, HeardNote, SentNote, empty, first_place, heard_number, heard_sending, is_heard, latest_to, with_event, overtakers, overtakes}
-use Rattle.circuit_set.specs.Events.{Event, Name, same_name}
+use Rattle.circuit_table.specs.Events.{Event, Name, same_name}
 use Rattle.circuit_set.specs.Signs.{AreOvertakers}
-use Rattle.circuit_set.specs.Sets.{CircuitTold, Made, Sent, Heeded, Notice, Gone, Restarted, Lost}
+use Rattle.circuit_table.specs.Sets.{CircuitTold, Made, Sent, Heeded, Notice, Gone, Restarted, Lost}
 use Rattle.circuit_set.specs.TooLate.{Overtaker, Overtakes, same_overtaker}
 use Rattle.circuit_set.proofs.Among.{by_snoc}
 use Rattle.circuit_set.proofs.Bridge.{name_itself, same_names}

@@ -4,12 +4,12 @@ use Rattle.std.proofs.Common.{sym, ◌∙◌, ap, append_assoc, inl, inr}
 use Rattle.circuit_l4.specs.declared.notice.EndNotice.{EndNotice}
 use Rattle.circuit_l4.specs.declared.notice.EndNotice.TheVariants.{Opened, Refused, Closed, ClosedByPartner, FailedRetries, FailedOversize, FailedInactive}
 use Rattle.circuit_set.specs.Books.{Book, Fresh, empty, partner}
-use Rattle.circuit_set.specs.Events.{Event, Name}
+use Rattle.circuit_table.specs.Events.{Event, Name}
 use Rattle.circuit_set.specs.Naming.{SendsToPartner}
 use Rattle.circuit_set.specs.NotedRuns.{Net, begins, net_run, opened_window, told_to}
 use Rattle.circuit_set.specs.Owned.{EndsAreOwned, NamesPartner, PartnerSent}
-use Rattle.circuit_set.specs.Runs.{AreStarts, AreSteps, Step, end_named, events_of, sets_run}
-use Rattle.circuit_set.specs.Sets.{Holder, SetState}
+use Rattle.circuit_table.specs.Runs.{AreStarts, AreSteps, Step, end_named, events_of, sets_run}
+use Rattle.circuit_table.specs.Sets.{Holder, SetState}
 use Rattle.circuit_set.specs.TooLate.{AllowsByWindow, Heeds, InTime, IsFresh, IsTimely, Partners, WasTold}
 use Rattle.circuit_set.proofs.Among.{has_last}
 use Rattle.circuit_set.proofs.Joined.{partner_looks}

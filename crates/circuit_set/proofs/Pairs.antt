@@ -3,7 +3,7 @@ use Rattle.std.specs.Prelude.{◌≡◌, ◌≢◌, ℕ, ◌+◌, ◌*◌, ◌-�
 use Rattle.std.proofs.Common.{sym, ◌∙◌, ap, arith}
 use Rattle.std.proofs.lemmas.Bool.Decides.{nat_tests}
 use Rattle.circuit_l4.specs.declared.pair.Pair.{Pair}
-use Rattle.circuit_set.specs.Pairs.{Change, EndMade, Giving, EndGone, IsPair, PairsDiffer, pair_after, after_giving, pair_given, is_full, is_used, next_free, pairs_given, without}
+use Rattle.circuit_table.specs.Pairs.{Change, EndMade, Giving, EndGone, IsPair, PairsDiffer, pair_after, after_giving, pair_given, is_full, is_used, next_free, pairs_given, without}
 use Rattle.circuit_set.proofs.Walks.{Walk, full, give_next, gone, next_place, give, places, skip, started, used}
 use Rattle.circuit_set.proofs.Places.{PlacesOk, Rising, all_places, started_ok}
 

@@ -20,9 +20,9 @@ use Rattle.circuit_l4.specs.State.{Effect, Out}
 use Rattle.circuit_l4.specs.Opening.{facts_of, requesting, responding}
 use Rattle.circuit_l4.specs.Table.{Arrive, step}
 use Rattle.circuit_l4.proofs.Spelling as transports
-use Rattle.circuit_set.specs.Sets.{heeds, Call, Calls, Comes, Connect, ConnectFor, Discard, Restart, Gone, Heeded, Holder, Lost, Made, Notice, Restarted, Sent, SetDone, SetState, CircuitTold, accept_again, all_gone, after_call, datagram_to, after_discarding, end_of, first_open, goes_to, hands_to, after_datagram, has_ended, holder_of, input_of, is_open, is_full, is_over, losses, makes_end, named_by, new_pair, notices, opened_by, read_as, after_transport, requests, requests_for, responds, sendings, after_effect, told_by, does_nothing, with_end}
+use Rattle.circuit_table.specs.Sets.{heeds, Call, Calls, Comes, Connect, ConnectFor, Discard, Restart, Gone, Heeded, Holder, Lost, Made, Notice, Restarted, Sent, SetDone, SetState, CircuitTold, accept_again, all_gone, after_call, datagram_to, after_discarding, end_of, first_open, goes_to, hands_to, after_datagram, has_ended, holder_of, input_of, is_open, is_full, is_over, losses, makes_end, named_by, new_pair, notices, opened_by, read_as, after_transport, requests, requests_for, responds, sendings, after_effect, told_by, does_nothing, with_end}
 use Rattle.circuit_set.specs.Refusals.{FromOne, IsNumbered, RefusalsAreUnheeded, RefusesUnder0, SetsRefuseUnder0, StartsAreNumbered}
-use Rattle.circuit_set.proofs.Origins.{origin_read}
+use Rattle.circuit_table.proofs.Origins.{origin_read}
 
 -- ---- the numbers of ends ----
 one_of : (id : ℕ) (hs : List Holder) (h : Holder) → FromOne hs → end_of id hs ≡ Some h → 1 ≤ h.id

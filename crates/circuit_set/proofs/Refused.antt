@@ -4,11 +4,11 @@ use Rattle.std.proofs.Common.{sym, ◌∙◌, ap, subst, inl, inr, arith}
 use Rattle.circuit_l4.specs.declared.transport.Transport.{Transport}
 use Rattle.circuit_l4.specs.State.{State}
 use Rattle.circuit_set.specs.Circuits.{PairOk}
-use Rattle.circuit_set.specs.Events.{Name, same_name}
+use Rattle.circuit_table.specs.Events.{Name, same_name}
 use Rattle.circuit_set.specs.NotedRuns.{Net, end_at}
-use Rattle.circuit_set.specs.Sets.{Holder, SetState}
+use Rattle.circuit_table.specs.Sets.{Holder, SetState}
 use Rattle.circuit_set.specs.Books.{Book, SentNote, has, partner}
-use Rattle.circuit_set.specs.Runs.{end_in}
+use Rattle.circuit_table.specs.Runs.{end_in}
 use Rattle.circuit_set.proofs.Bridge.{TopAt, heard_of, top_kept}
 use Rattle.circuit_set.proofs.Copies.{Spelled}
 use Rattle.circuit_set.proofs.Lookups.{has_note, not_same}

@@ -6,11 +6,11 @@ use Rattle.circuit_l4.specs.declared.pair.Pair.{Pair}
 use Rattle.circuit_l4.specs.declared.notice.EndNotice.{EndNotice}
 use Rattle.circuit_l4.specs.State.{Effect, State}
 use Rattle.circuit_l4.specs.Opening.{facts_of}
-use Rattle.circuit_set.specs.Sets.{Act, Calls, Comes, Connect, ConnectFor, Discard, Restart, Made, Sent, Heeded, Gone, Restarted, Holder, SetDone, SetState, end_of, goes_to, holder_of, is_over, losses, makes_end, new_pair, after_restart, set_step, told_by, with_end}
+use Rattle.circuit_table.specs.Sets.{Act, Calls, Comes, Connect, ConnectFor, Discard, Restart, Made, Sent, Heeded, Gone, Restarted, Holder, SetDone, SetState, end_of, goes_to, holder_of, is_over, losses, makes_end, new_pair, after_restart, set_step, told_by, with_end}
 use Rattle.circuit_set.specs.Books.{Book, with_event, with_events}
-use Rattle.circuit_set.specs.Events.{Name}
+use Rattle.circuit_table.specs.Events.{Name}
 use Rattle.circuit_set.specs.NotedRuns.{Net, begins, end_at, told_to}
-use Rattle.circuit_set.specs.Runs.{AreStarts, Step, events_at, sets_at, told_at}
+use Rattle.circuit_table.specs.Runs.{AreStarts, Step, events_at, sets_at, told_at}
 use Rattle.circuit_set.proofs.Acts.{set_self}
 use Rattle.circuit_set.proofs.Bridge.{name_itself}
 use Rattle.circuit_set.proofs.Cases.{Cases, IsNew, Lives, Says, step_cases}
@@ -24,7 +24,7 @@ use Rattle.circuit_set.proofs.Restarts.{noted_losses}
 use Rattle.circuit_set.proofs.Safe.{none_case, starts_at}
 use Rattle.circuit_set.proofs.Stepped as stepped
 use Rattle.circuit_set.proofs.Stepped.{same_holder}
-use Rattle.circuit_set.proofs.Names.{SameEnd}
+use Rattle.circuit_table.proofs.Names.{SameEnd}
 
 pub record LivesOn (net : Net) (x : Name) (h : Holder) : Type 0 where
   pub note : has_note net.book.made x ≡ true

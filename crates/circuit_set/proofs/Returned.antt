@@ -6,12 +6,12 @@ use Rattle.l3_datagram.specs.Datagrams.{head_at}
 use Rattle.circuit_l4.specs.Transports as reading
 use Rattle.circuit_l4.specs.Transports.{transport_at}
 use Rattle.circuit_set.specs.Books.{Fresh, empty}
-use Rattle.circuit_set.specs.Events.{Event}
+use Rattle.circuit_table.specs.Events.{Event}
 use Rattle.circuit_set.specs.Examples.{CopyReturns, ask, asked_again, n0aaa, node, n0bbb}
-use Rattle.circuit_set.specs.Givings.{pairs_made}
+use Rattle.circuit_table.specs.Givings.{pairs_made}
 use Rattle.circuit_set.specs.Returning.{CallsDiffer, WasSent, given_by, told_at_node}
-use Rattle.circuit_set.specs.Runs.{Step, events_of}
-use Rattle.circuit_set.specs.Sets.{Act, Comes, Made, Sent, Heeded, Notice, Gone, Restarted, Lost, SetState, CircuitTold}
+use Rattle.circuit_table.specs.Runs.{Step, events_of}
+use Rattle.circuit_table.specs.Sets.{Act, Comes, Made, Sent, Heeded, Notice, Gone, Restarted, Lost, SetState, CircuitTold}
 
 abbrev both : List SetState
 both = node n0aaa ∷ node n0bbb ∷ []

@@ -7,12 +7,12 @@ use Rattle.circuit_l4.specs.declared.pair.Pair.{Pair}
 use Rattle.circuit_l4.specs.declared.role.Role.{Role}
 use Rattle.circuit_l4.specs.State.{Effect}
 use Rattle.circuit_set.specs.Books.{Book, empty, has_sent, lost_with, with_event, with_events}
-use Rattle.circuit_set.specs.Events.{Event, Name, is_copy, same_name}
+use Rattle.circuit_table.specs.Events.{Event, Name, is_copy, same_name}
 use Rattle.circuit_set.specs.NotedRuns.{Net, begins, net_step}
-use Rattle.circuit_set.specs.Givings.{IsUp, pairs_made}
+use Rattle.circuit_table.specs.Givings.{IsUp, pairs_made}
 use Rattle.circuit_set.specs.Returning.{CopiesAloneReturn, FreshButFrom, IsUnbroken, WasSent}
-use Rattle.circuit_set.specs.Runs.{AreSteps, IsAct, Step, events_at, events_of, sets_at, told_at}
-use Rattle.circuit_set.specs.Sets.{Act, Comes, Made, Sent, Heeded, Notice, Gone, Restarted, Lost, Holder, SetDone, SetState, CircuitTold, holder_of, makes_end, new_pair, set_step, told_by}
+use Rattle.circuit_table.specs.Runs.{AreSteps, IsAct, Step, events_at, events_of, sets_at, told_at}
+use Rattle.circuit_table.specs.Sets.{Act, Comes, Made, Sent, Heeded, Notice, Gone, Restarted, Lost, Holder, SetDone, SetState, CircuitTold, holder_of, makes_end, new_pair, set_step, told_by}
 use Rattle.circuit_set.proofs.Askers.{asked_or_returned, no_other}
 use Rattle.circuit_set.proofs.Bridge.{name_itself}
 use Rattle.circuit_set.proofs.Cases.{Every, MadeBy, Opener, step_every}

@@ -6,11 +6,11 @@ use Rattle.circuit_l4.specs.declared.notice.EndNotice.TheVariants.{Closed, Close
 use Rattle.circuit_l4.specs.State.{State}
 use Rattle.circuit_set.specs.Circuits.{SafeTo}
 use Rattle.circuit_set.specs.Safe.{IsBeginning, wholes, SafeAlone}
-use Rattle.circuit_set.specs.Events.{Name}
+use Rattle.circuit_table.specs.Events.{Name}
 use Rattle.circuit_set.specs.NotedRuns.{Net, PartnersStay, WindowsFit, allowance_at, begins, end_at, net_run, told_to}
-use Rattle.circuit_set.specs.Sets.{Holder, SetState, end_of}
+use Rattle.circuit_table.specs.Sets.{Holder, SetState, end_of}
 use Rattle.circuit_set.specs.Books.{Timely, empty, partner}
-use Rattle.circuit_set.specs.Runs.{AreStarts, AreSteps, IsStart, Step, events_of, end_in}
+use Rattle.circuit_table.specs.Runs.{AreStarts, AreSteps, IsStart, Step, events_of, end_in}
 use Rattle.circuit_set.proofs.Lonely.{alone_safe}
 use Rattle.circuit_set.proofs.Lookups.{InEnds}
 use Rattle.circuit_set.proofs.Whole.{safe_of}

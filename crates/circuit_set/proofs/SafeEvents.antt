@@ -6,11 +6,11 @@ use Rattle.circuit_l4.specs.declared.notice.EndNotice.{EndNotice}
 use Rattle.circuit_l4.specs.declared.notice.EndNotice.TheVariants.{Closed, ClosedByPartner, FailedRetries}
 use Rattle.circuit_set.specs.TooLate.{Has, AllowsByWindow, HasPartner, IsFresh, IsTimely, Partners, Tells, WasTold}
 use Rattle.circuit_set.specs.Books.{Book, Fresh, FreshFrom, MadeNote, Timely, empty, lost_with, with_event, with_events, partner}
-use Rattle.circuit_set.specs.Events.{Event, Name, same_name}
+use Rattle.circuit_table.specs.Events.{Event, Name, same_name}
 use Rattle.circuit_set.specs.NotedRuns.{Net, allowance_at, begins, end_at, net_run, net_step, told_to}
 use Rattle.circuit_set.specs.Safe.{RetriesAreTold, CircuitsSafe, IsSafe, PartnersLast, Safe, SafeBetween}
-use Rattle.circuit_set.specs.Runs.{AreStarts, AreSteps, Step, end_named, events_of, sets_at, sets_run, told_at}
-use Rattle.circuit_set.specs.Sets.{Holder, SetState, CircuitTold, Made, Sent, Heeded, Notice, Gone, Restarted, Lost}
+use Rattle.circuit_table.specs.Runs.{AreStarts, AreSteps, Step, end_named, events_of, sets_at, sets_run, told_at}
+use Rattle.circuit_table.specs.Sets.{Holder, SetState, CircuitTold, Made, Sent, Heeded, Notice, Gone, Restarted, Lost}
 use Rattle.circuit_set.proofs.Among.{has_nothing}
 use Rattle.circuit_set.proofs.Bridge.{same_names}
 use Rattle.circuit_set.proofs.ByBook.{fresh_by_book, timely_by_book}

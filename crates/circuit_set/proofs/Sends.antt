@@ -17,7 +17,7 @@ use Rattle.circuit_l4.specs.Moves.{Acknowledgement, acknowledge, acknowledge_by,
 use Rattle.circuit_set.specs.Lines.{at_place}
 use Rattle.circuit_set.specs.Outs.{AllOut, OutOk}
 use Rattle.circuit_set.proofs.Receives.{place_is}
-use Rattle.circuit_set.proofs.Choices.{Named, either, names, on_due}
+use Rattle.circuit_table.proofs.Choices.{Named, either, names, on_due}
 
 -- ---- choices ----
 -- what no law reads may change: when an answer is due

@@ -9,11 +9,11 @@ use Rattle.circuit_l4.specs.declared.notice.EndNotice.TheVariants.{Opened, Refus
 use Rattle.circuit_l4.specs.Transports.{transport_at}
 use Rattle.circuit_l4.specs.State.{Effect, State}
 use Rattle.circuit_l4.specs.Opening.{facts_of}
-use Rattle.circuit_set.specs.Sets.{Act, Calls, Comes, Connect, ConnectFor, Discard, Restart, Made, Sent, Heeded, Gone, Restarted, Holder, SetDone, SetState, end_of, goes_to, holder_of, is_over, losses, makes_end, new_pair, after_restart, set_step, told_by, with_end}
+use Rattle.circuit_table.specs.Sets.{Act, Calls, Comes, Connect, ConnectFor, Discard, Restart, Made, Sent, Heeded, Gone, Restarted, Holder, SetDone, SetState, end_of, goes_to, holder_of, is_over, losses, makes_end, new_pair, after_restart, set_step, told_by, with_end}
 use Rattle.circuit_set.specs.Books.{Book, Timely, TimelyTo, with_event, with_events, partner, partner_in}
-use Rattle.circuit_set.specs.Events.{Event, Name}
+use Rattle.circuit_table.specs.Events.{Event, Name}
 use Rattle.circuit_set.specs.NotedRuns.{Net, allowance_at, begins, end_at, net_run, net_step, opened_window, told_to}
-use Rattle.circuit_set.specs.Runs.{AreStarts, AreSteps, Step, end_in, events_at, events_of, sets_at, told_at}
+use Rattle.circuit_table.specs.Runs.{AreStarts, AreSteps, Step, end_in, events_at, events_of, sets_at, told_at}
 use Rattle.circuit_set.specs.Naming.{RequestersSend, SendsToPartner}
 use Rattle.circuit_set.proofs.Acts.{set_self}
 use Rattle.circuit_set.proofs.Asks.{AskOf}
@@ -31,7 +31,7 @@ use Rattle.circuit_set.proofs.Restarts.{gone_of, noted_losses}
 use Rattle.circuit_set.proofs.Safe.{none_case, start_kept}
 use Rattle.circuit_set.proofs.Stepped as stepped
 use Rattle.circuit_set.proofs.Stepped.{Onto, onto_itself, same_holder}
-use Rattle.circuit_set.proofs.Names.{SameEnd}
+use Rattle.circuit_table.proofs.Names.{SameEnd}
 
 -- each requester's end that was opened sends to its partner's pair
 abbrev Known : Net → Type 0

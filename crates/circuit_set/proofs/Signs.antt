@@ -4,7 +4,7 @@ use Rattle.std.proofs.Common.{sym, ◌∙◌, ap, subst, inl, inr, append_assoc,
 use Rattle.circuit_l4.specs.declared.pair.Pair.{Pair}
 use Rattle.circuit_set.specs.Books.{Fresh, MadeNote, SentNote, any_ends, empty, is_lost, latest_by, latest_in, lost_in, overtakers, partner_in, was_asked}
 use Rattle.circuit_set.specs.ByBook.{HeldByBook, OvertakenByBook, TooManyByBook, UnaskedByBook, UnsentByBook}
-use Rattle.circuit_set.specs.Events.{Event, Name}
+use Rattle.circuit_table.specs.Events.{Event, Name}
 use Rattle.circuit_set.specs.NotedRuns.{allowance, allowance_at, opened_window, told_to}
 use Rattle.circuit_set.specs.Signs.{AreTooMany, IsUnsent, OvertakenBy, StillHolds}
 use Rattle.circuit_set.specs.TooLate.{AllowsByWindow, Gives, Has, OpenedWith, SendsCopy}

@@ -6,8 +6,8 @@ use Rattle.circuit_l4.specs.declared.pair.Pair.{Pair}
 use Rattle.circuit_l4.specs.declared.notice.EndNotice.{EndNotice}
 use Rattle.circuit_set.specs.TooLate.{Last, Gives, LatestSending, Loses, SendsCopy, SendsFragment, Tells}
 use Rattle.circuit_set.specs.Books.{Book, MadeNote, SentNote, has, has_sent, is_lost, is_number, latest_in, lost_with, made_last, with_event, with_notice, lost_in}
-use Rattle.circuit_set.specs.Events.{Event, Name, is_copy, same_name}
-use Rattle.circuit_set.specs.Sets.{CircuitTold, Made, Sent, Heeded, Notice, Gone, Restarted, Lost, same_pair}
+use Rattle.circuit_table.specs.Events.{Event, Name, is_copy, same_name}
+use Rattle.circuit_table.specs.Sets.{CircuitTold, Made, Sent, Heeded, Notice, Gone, Restarted, Lost, same_pair}
 use Rattle.circuit_set.proofs.Among.{by_snoc, last_so}
 use Rattle.circuit_set.proofs.Bridge.{same_names}
 use Rattle.circuit_set.proofs.Copies.{same_calls}

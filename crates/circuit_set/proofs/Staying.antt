@@ -3,12 +3,12 @@ use Rattle.std.specs.Prelude.{◌≡◌, ℕ, ◌⊎◌, Bool, true, nat_eq, sli
 use Rattle.std.proofs.Common.{◌∙◌, ap, subst, inl, inr}
 use Rattle.circuit_l4.specs.State.{State}
 use Rattle.circuit_set.specs.Books.{Book, with_events}
-use Rattle.circuit_set.specs.Events.{Name}
+use Rattle.circuit_table.specs.Events.{Name}
 use Rattle.circuit_set.specs.Facing.{EndsStay}
-use Rattle.circuit_set.specs.Givings.{IsUp}
+use Rattle.circuit_table.specs.Givings.{IsUp}
 use Rattle.circuit_set.specs.NotedRuns.{Net, begins, end_at, net_run}
-use Rattle.circuit_set.specs.Runs.{Step, end_in, sets_at, told_at}
-use Rattle.circuit_set.specs.Sets.{Act, Calls, Comes, Connect, ConnectFor, Discard, Restart, Holder, SetDone, SetState, end_of, holder_of, is_over, makes_end, set_step, with_end}
+use Rattle.circuit_table.specs.Runs.{Step, end_in, sets_at, told_at}
+use Rattle.circuit_table.specs.Sets.{Act, Calls, Comes, Connect, ConnectFor, Discard, Restart, Holder, SetDone, SetState, end_of, holder_of, is_over, makes_end, set_step, with_end}
 use Rattle.circuit_set.proofs.Acts.{set_self}
 use Rattle.circuit_set.proofs.Cases.{step_every}
 use Rattle.circuit_set.proofs.Given.{Numbers, none_of, one}

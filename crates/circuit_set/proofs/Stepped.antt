@@ -4,11 +4,11 @@ use Rattle.std.proofs.Common.{sym, ◌∙◌, ap, subst, inl, inr, arith}
 use Rattle.std.proofs.lemmas.Bool.Decides.{nat_tests}
 use Rattle.circuit_l4.specs.declared.pair.Pair.{Pair}
 use Rattle.circuit_l4.specs.State.{State}
-use Rattle.circuit_set.specs.Sets.{Holder, SetState, end_of, has_ended, after_restart, with_end}
+use Rattle.circuit_table.specs.Sets.{Holder, SetState, end_of, has_ended, after_restart, with_end}
 use Rattle.circuit_set.specs.Books.{Book}
-use Rattle.circuit_set.specs.Events.{Name}
+use Rattle.circuit_table.specs.Events.{Name}
 use Rattle.circuit_set.specs.NotedRuns.{Net, end_at}
-use Rattle.circuit_set.specs.Runs.{end_in}
+use Rattle.circuit_table.specs.Runs.{end_in}
 use Rattle.circuit_set.proofs.Lookups.{end_kept, end_new, set_other, set_same}
 use Rattle.circuit_set.proofs.Noting.{end_at_other, end_at_same}
 use Rattle.circuit_set.proofs.Restarts.{gone_of, is_end, was_end}

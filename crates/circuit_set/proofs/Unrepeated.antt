@@ -7,10 +7,10 @@ use Rattle.ax_address.specs.Callsign.{Callsign}
 use Rattle.circuit_l4.specs.declared.pair.Pair.{Pair}
 use Rattle.circuit_l4.specs.declared.notice.EndNotice.{EndNotice}
 use Rattle.circuit_set.specs.Books.{Book, MadeNote, with_event, with_events, with_notice}
-use Rattle.circuit_set.specs.Events.{Event, Name, same_name}
-use Rattle.circuit_set.specs.Givings.{pairs_made}
+use Rattle.circuit_table.specs.Events.{Event, Name, same_name}
+use Rattle.circuit_table.specs.Givings.{pairs_made}
 use Rattle.circuit_set.specs.Returning.{told_at_node}
-use Rattle.circuit_set.specs.Sets.{Made, Sent, Heeded, Notice, Gone, Restarted, Lost, CircuitTold}
+use Rattle.circuit_table.specs.Sets.{Made, Sent, Heeded, Notice, Gone, Restarted, Lost, CircuitTold}
 use Rattle.circuit_set.proofs.Differing.{Distinct, In, apart_of, given, given_append, in_first, in_here}
 
 -- ---- what holds of each note ----

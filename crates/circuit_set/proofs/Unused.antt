@@ -4,7 +4,7 @@ use Rattle.std.proofs.Common.{sym, ◌∙◌, subst, inl, inr, arith}
 use Rattle.std.proofs.lemmas.Bool.Decides.{nat_tests}
 use Rattle.circuit_l4.specs.declared.pair.Pair.{Pair}
 use Rattle.circuit_set.specs.Lines.{Elem, count_from}
-use Rattle.circuit_set.specs.Pairs.{IsPair, pair_after, is_used, next_free}
+use Rattle.circuit_table.specs.Pairs.{IsPair, pair_after, is_used, next_free}
 use Rattle.circuit_set.proofs.Range.{range_counted}
 
 abbrev indexes : List Pair → List ℕ

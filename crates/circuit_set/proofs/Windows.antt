@@ -7,9 +7,9 @@ use Rattle.circuit_l4.specs.declared.notice.EndNotice.{EndNotice}
 use Rattle.circuit_l4.specs.declared.notice.EndNotice.TheVariants.{Opened}
 use Rattle.circuit_set.specs.TooLate.{Has, Last, Makes, Tells}
 use Rattle.circuit_set.specs.Books.{Book, with_event, with_notice}
-use Rattle.circuit_set.specs.Events.{Event, Name, same_name}
+use Rattle.circuit_table.specs.Events.{Event, Name, same_name}
 use Rattle.circuit_set.specs.NotedRuns.{told_to}
-use Rattle.circuit_set.specs.Sets.{CircuitTold, Made, Sent, Heeded, Notice, Gone, Restarted, Lost}
+use Rattle.circuit_table.specs.Sets.{CircuitTold, Made, Sent, Heeded, Notice, Gone, Restarted, Lost}
 use Rattle.circuit_set.proofs.Among.{by_snoc, has_cases, has_last, has_new, has_nothing, has_old, last_cases, last_new, last_old}
 use Rattle.circuit_set.proofs.Bridge.{name_itself, same_names}
 use Rattle.circuit_set.proofs.Lookups.{has_note, noticed, same_note, unnoticed}

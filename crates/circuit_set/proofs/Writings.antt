@@ -9,11 +9,11 @@ use Rattle.circuit_l4.specs.Laws.{Accepts, Asks, IsNew, WroteByWrites, written_b
 use Rattle.circuit_l4.specs.State.{Effect, State}
 use Rattle.circuit_l4.specs.Table.{Arrive}
 use Rattle.circuit_set.specs.Books.{Book, with_events}
-use Rattle.circuit_set.specs.Events.{Name}
+use Rattle.circuit_table.specs.Events.{Name}
 use Rattle.circuit_set.specs.NotedRuns.{Net, begins, end_at, net_run, net_step}
-use Rattle.circuit_set.specs.Givings.{IsUp}
-use Rattle.circuit_set.specs.Runs.{Step, end_in, events_at, sets_at, told_at}
-use Rattle.circuit_set.specs.Sets.{Act, Call, Calls, Comes, Connect, ConnectFor, Discard, Restart, Holder, SetDone, SetState, end_of, holder_of, input_of, is_over, makes_end, after_restart, set_step, with_end}
+use Rattle.circuit_table.specs.Givings.{IsUp}
+use Rattle.circuit_table.specs.Runs.{Step, end_in, events_at, sets_at, told_at}
+use Rattle.circuit_table.specs.Sets.{Act, Call, Calls, Comes, Connect, ConnectFor, Discard, Restart, Holder, SetDone, SetState, end_of, holder_of, input_of, is_over, makes_end, after_restart, set_step, with_end}
 use Rattle.circuit_set.specs.Writings.{EndsWroteByWrites, act_writes, called_writes, step_writes, wrote_of}
 use Rattle.circuit_set.proofs.Acts.{set_self}
 use Rattle.circuit_set.proofs.Cases.{Idle, MadeBy, MovedBy, NoCall, asked_quiet, step_every}

@@ -8,8 +8,8 @@ use Rattle.l3_datagram.specs.Datagrams.{head_at}
 use Rattle.circuit_l4.specs.declared.pair.Pair.{Pair}
 use Rattle.circuit_l4.specs.declared.notice.EndNotice.{EndNotice}
 use Rattle.circuit_l4.specs.Transports.{pair_at}
-use Rattle.circuit_set.specs.Events.{Event, Name, ends_it, is_copy, same_name}
-use Rattle.circuit_set.specs.Sets.{CircuitTold, Made, Sent, Heeded, Notice, Gone, Lost, Restarted, same_pair}
+use Rattle.circuit_table.specs.Events.{Event, Name, ends_it, is_copy, same_name}
+use Rattle.circuit_table.specs.Sets.{CircuitTold, Made, Sent, Heeded, Notice, Gone, Lost, Restarted, same_pair}
 
 pub record MadeNote : Type 0 where
   pub who : Name

@@ -2,7 +2,7 @@
 use Rattle.std.specs.Prelude.{◌≡◌, ◌≢◌, ◌↔◌, ℕ, false, List, [], Contains, Some, None}
 use Rattle.circuit_l4.specs.declared.pair.Pair.{Pair}
 use Rattle.circuit_set.specs.Books.{Book, Fresh, MadeNote, SentNote, Timely, any_ends, empty, is_lost, latest_in, latest_to, lost_in, overtakers, partner, requester, with_events}
-use Rattle.circuit_set.specs.Events.{Event, Name}
+use Rattle.circuit_table.specs.Events.{Event, Name}
 use Rattle.circuit_set.specs.NotedRuns.{allowance_at}
 use Rattle.circuit_set.specs.Signs.{AreTooMany, IsUnasked, IsUnsent, OvertakenBy, StillHolds}
 use Rattle.circuit_set.specs.TooLate.{AllowsByWindow, HasPartner, IsFresh, IsTimely, Partners, allows_fixed}

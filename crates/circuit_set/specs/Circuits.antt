@@ -15,7 +15,7 @@ use Rattle.circuit_l4.specs.Table.{Input, Arrive, common_window, step}
 use Rattle.circuit_l4.specs.Opening.{requesting, responding}
 use Rattle.circuit_set.specs.Lines.{InfoMark, AckMark, count_from}
 use Rattle.circuit_set.specs.Heaps.{AreMessages}
-use Rattle.circuit_set.specs.Sets.{heeds}
+use Rattle.circuit_table.specs.Sets.{heeds}
 use Rattle.circuit_set.specs.Safe.{IsBeginning, wholes}
 use Rattle.circuit_set.specs.Ways.{DirectionOk}
 

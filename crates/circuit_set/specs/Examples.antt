@@ -8,11 +8,11 @@ use Rattle.circuit_l4.specs.declared.transport.Transport.{Transport}
 use Rattle.circuit_l4.specs.declared.transport.Transport.TheVariants.{Request, Accept, Info}
 use Rattle.circuit_l4.specs.declared.config.EndConfig.{EndConfig}
 use Rattle.circuit_l4.specs.Transports.{transport_octets}
-use Rattle.circuit_set.specs.Sets.{Calls, Comes, Connect, Restart, SetState, Ticks, new_set}
+use Rattle.circuit_table.specs.Sets.{Calls, Comes, Connect, Restart, SetState, Ticks, new_set}
 use Rattle.circuit_set.specs.Books.{Fresh, Timely, empty}
 use Rattle.circuit_set.specs.NotedRuns.{allowance_at}
 use Rattle.circuit_set.specs.Returning.{IsUnbroken}
-use Rattle.circuit_set.specs.Runs.{Step, events_of}
+use Rattle.circuit_table.specs.Runs.{Step, events_of}
 use Rattle.circuit_set.specs.Safe.{Safe}
 
 -- N0AAA and N0BBB

@@ -2,11 +2,11 @@
 use Rattle.std.specs.Prelude.{◌≡◌, ℕ, List, slice_get, Some}
 use Rattle.ax_address.specs.Callsign.{Callsign}
 use Rattle.circuit_set.specs.Books.{partner}
-use Rattle.circuit_set.specs.Events.{Name}
+use Rattle.circuit_table.specs.Events.{Name}
 use Rattle.circuit_set.specs.NotedRuns.{Net, begins, end_at, net_run, net_step}
 use Rattle.circuit_set.specs.Returning.{CallsDiffer}
-use Rattle.circuit_set.specs.Runs.{AreStarts, AreSteps, Step}
-use Rattle.circuit_set.specs.Sets.{Holder, SetState}
+use Rattle.circuit_table.specs.Runs.{AreStarts, AreSteps, Step}
+use Rattle.circuit_table.specs.Sets.{Holder, SetState}
 
 -- the call of the node at a place
 abbrev pub IsCallOf : List SetState → ℕ → Callsign → Type 0

@@ -7,7 +7,7 @@ use Rattle.circuit_l4.specs.declared.transport.Transport.TheVariants.{Request, A
 use Rattle.l3_datagram.specs.Datagrams.{head_at}
 use Rattle.l3_datagram.specs.declared.datagram.DatagramHead.{DatagramHead}
 use Rattle.l3_datagram.specs.declared.datagram.TheConstants.{HEAD_SIZE}
-use Rattle.circuit_set.specs.Sets.{heeds, Act, Comes, Heeded, Holder, SetState, CircuitTold, named_by, set_step}
+use Rattle.circuit_table.specs.Sets.{heeds, Act, Comes, Heeded, Holder, SetState, CircuitTold, named_by, set_step}
 
 -- the pair of the end to which a transport goes: a request goes to none yet
 abbrev pub pair_named : Transport → Option Pair

@@ -1,10 +1,10 @@
 -- To whom an end sends: what of it stands on time alone, and what on freshness alone.
 use Rattle.std.specs.Prelude.{◌≡◌, ℕ, true, false, List, ◌++◌, Some, None}
-use Rattle.circuit_set.specs.Sets.{Holder, SetState, is_open}
+use Rattle.circuit_table.specs.Sets.{Holder, SetState, is_open}
 use Rattle.circuit_set.specs.Books.{Fresh, Timely, empty, partner}
-use Rattle.circuit_set.specs.Events.{Name}
+use Rattle.circuit_table.specs.Events.{Name}
 use Rattle.circuit_set.specs.NotedRuns.{Net, allowance_at, begins, end_at, net_run, opened_window, told_to}
-use Rattle.circuit_set.specs.Runs.{AreStarts, AreSteps, Step, events_of}
+use Rattle.circuit_table.specs.Runs.{AreStarts, AreSteps, Step, events_of}
 
 -- it has a partner, and sends to its partner's pair
 pub record SendsToPartner (net : Net) (x : Name) (h : Holder) : Type 0 where

@@ -3,9 +3,9 @@ use Rattle.std.specs.Prelude.{◌≡◌, ◌≢◌, ℕ, ◌+◌, ◌-◌, ◌*�
 use Rattle.circuit_l4.specs.declared.notice.EndNotice.{EndNotice}
 use Rattle.circuit_l4.specs.declared.notice.EndNotice.TheVariants.{Opened}
 use Rattle.circuit_set.specs.Books.{Book, MadeNote, Timely, empty, with_events, partner, was_asked}
-use Rattle.circuit_set.specs.Events.{Name, same_name}
-use Rattle.circuit_set.specs.Runs.{AreNarrow, AreStarts, AreSteps, Step, end_named, events_of, sets_at, told_at}
-use Rattle.circuit_set.specs.Sets.{Holder, SetState}
+use Rattle.circuit_table.specs.Events.{Name, same_name}
+use Rattle.circuit_table.specs.Runs.{AreNarrow, AreStarts, AreSteps, Step, end_named, events_of, sets_at, told_at}
+use Rattle.circuit_table.specs.Sets.{Holder, SetState}
 
 pub record Net : Type 0 where
   pub sets : List SetState

@@ -1,9 +1,9 @@
 -- Whose partner an end is, and whose datagrams it heeds (this project's profile).
 use Rattle.std.specs.Prelude.{◌≡◌, ℕ, List, ◌∷◌, ◌++◌, Option, Some, None}
 use Rattle.circuit_l4.specs.declared.notice.EndNotice.TheVariants.{Opened}
-use Rattle.circuit_set.specs.Events.{Event, Name}
-use Rattle.circuit_set.specs.Runs.{AreStarts, AreSteps, Step, end_named, events_of, sets_run}
-use Rattle.circuit_set.specs.Sets.{Holder, SetState}
+use Rattle.circuit_table.specs.Events.{Event, Name}
+use Rattle.circuit_table.specs.Runs.{AreStarts, AreSteps, Step, end_named, events_of, sets_run}
+use Rattle.circuit_table.specs.Sets.{Holder, SetState}
 use Rattle.circuit_set.specs.TooLate.{AllowsByWindow, Has, Heeds, IsFresh, IsTimely, Partners, SendsCopy, WasTold}
 
 -- x's partner has sent a copy of this datagram

@@ -6,8 +6,8 @@ use Rattle.circuit_l4.specs.declared.pair.Pair.{Pair}
 use Rattle.circuit_l4.specs.declared.transport.Transport.TheVariants.{Refuse}
 use Rattle.l3_datagram.specs.declared.datagram.TheConstants.{HEAD_SIZE}
 use Rattle.circuit_set.specs.Heedings.{IsFor}
-use Rattle.circuit_set.specs.Runs.{IsStart}
-use Rattle.circuit_set.specs.Sets.{Act, Holder, Sent, SetState, CircuitTold, set_step}
+use Rattle.circuit_table.specs.Runs.{IsStart}
+use Rattle.circuit_table.specs.Sets.{Act, Holder, Sent, SetState, CircuitTold, set_step}
 
 -- a datagram that carries a refusal, and so does each copy of it
 pub record IsRefusal (datagram : List ℕ) : Type 0 where

@@ -9,10 +9,10 @@ use Rattle.circuit_l4.specs.Transports.{transport_at}
 use Rattle.circuit_l4.specs.declared.pair.Pair.{Pair}
 use Rattle.circuit_l4.specs.declared.transport.Transport.TheVariants.{Request}
 use Rattle.circuit_set.specs.Books.{Book, FreshTold, MadeNote, any_ends, empty, has_sent, lost_with, made_last, with_event}
-use Rattle.circuit_set.specs.Events.{Event, Name, is_copy}
-use Rattle.circuit_set.specs.Givings.{IsUp, pairs_made}
-use Rattle.circuit_set.specs.Runs.{AreStarts, AreSteps, Step, events_of}
-use Rattle.circuit_set.specs.Sets.{Comes, Made, Sent, SetState, CircuitTold}
+use Rattle.circuit_table.specs.Events.{Event, Name, is_copy}
+use Rattle.circuit_table.specs.Givings.{IsUp, pairs_made}
+use Rattle.circuit_table.specs.Runs.{AreStarts, AreSteps, Step, events_of}
+use Rattle.circuit_table.specs.Sets.{Comes, Made, Sent, SetState, CircuitTold}
 
 -- ---- the runs of which it is said
 

@@ -4,9 +4,9 @@ use Rattle.std.specs.Prelude.{◌≡◌, ◌≢◌, ◌+◌, ◌⊎◌, ◌↔�
 use Rattle.circuit_l4.specs.declared.notice.EndNotice.TheVariants.{Closed, ClosedByPartner, FailedRetries}
 use Rattle.circuit_l4.specs.State.{State}
 use Rattle.circuit_reassembly.specs.Fragments.{fragments_of}
-use Rattle.circuit_set.specs.Events.{Event, Name}
-use Rattle.circuit_set.specs.Runs.{AreStarts, AreSteps, Step, end_named, events_of, expiries_in, sets_run}
-use Rattle.circuit_set.specs.Sets.{Holder, SetState}
+use Rattle.circuit_table.specs.Events.{Event, Name}
+use Rattle.circuit_table.specs.Runs.{AreStarts, AreSteps, Step, end_named, events_of, expiries_in, sets_run}
+use Rattle.circuit_table.specs.Sets.{Holder, SetState}
 use Rattle.circuit_set.specs.TooLate.{AllowsByWindow, HasPartner, IsFresh, IsTimely, Partners, WasTold}
 
 -- The beginning of what was written, and how many of its messages are whole (this project's profile).

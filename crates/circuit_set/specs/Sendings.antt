@@ -2,7 +2,7 @@
 use Rattle.std.specs.Prelude.{ℕ, ◌≡◌, List, [], ◌∷◌}
 use Rattle.ax_address.specs.Callsign.{Callsign}
 use Rattle.l3_datagram.specs.Datagrams.{octets_with}
-use Rattle.circuit_set.specs.Sets.{Act, Sent, SetState, CircuitTold, set_step}
+use Rattle.circuit_table.specs.Sets.{Act, Sent, SetState, CircuitTold, set_step}
 
 -- a datagram of this node
 pub record IsFrom (own : Callsign) (ttl : ℕ) (datagram : List ℕ) : Type 0 where

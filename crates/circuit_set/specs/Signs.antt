@@ -3,7 +3,7 @@ use Rattle.std.specs.Prelude.{◌≡◌, ◌≢◌, ℕ, ◌⊎◌, List, [], �
 use Rattle.std.specs.List.{AllByRecursion, IsDistinct}
 use Rattle.ax_address.specs.Callsign.{Callsign}
 use Rattle.circuit_l4.specs.declared.pair.Pair.{Pair}
-use Rattle.circuit_set.specs.Events.{Event, Name}
+use Rattle.circuit_table.specs.Events.{Event, Name}
 use Rattle.circuit_set.specs.Owned.{PartnerSent}
 use Rattle.circuit_set.specs.TooLate.{Allowing, Asks, Gives, Has, HasPartner, IsOpen, LatestSending, Overtaker, Overtakes, Partners, same_overtaker}
 

@@ -10,8 +10,8 @@ use Rattle.circuit_l4.specs.declared.facts.EndFacts.{EndFacts}
 use Rattle.circuit_l4.specs.declared.notice.EndNotice.{EndNotice}
 use Rattle.circuit_l4.specs.declared.notice.EndNotice.TheVariants.{Opened}
 use Rattle.circuit_l4.specs.Transports.{pair_at}
-use Rattle.circuit_set.specs.Events.{Event, Name, ends_it, is_copy, same_name}
-use Rattle.circuit_set.specs.Sets.{CircuitTold, Made, Sent, Heeded, Notice, Lost}
+use Rattle.circuit_table.specs.Events.{Event, Name, ends_it, is_copy, same_name}
+use Rattle.circuit_table.specs.Sets.{CircuitTold, Made, Sent, Heeded, Notice, Lost}
 
 -- Where an event stands among others, in the order in which they were told.
 

@@ -1,10 +1,10 @@
 -- What the ends of a run have written. Own profile.
 use Rattle.std.specs.Prelude.{◌≡◌, ℕ, ◌++◌, nat_eq, if◌then◌else◌, List, [], Option, Some, None}
 use Rattle.circuit_l4.specs.Laws.{written_by}
-use Rattle.circuit_set.specs.Events.{Name}
+use Rattle.circuit_table.specs.Events.{Name}
 use Rattle.circuit_set.specs.NotedRuns.{Net, begins, end_at, net_run, net_step}
-use Rattle.circuit_set.specs.Runs.{AreStarts, Step}
-use Rattle.circuit_set.specs.Sets.{Act, Call, Calls, Holder, SetState, input_of}
+use Rattle.circuit_table.specs.Runs.{AreStarts, Step}
+use Rattle.circuit_table.specs.Sets.{Act, Call, Calls, Holder, SetState, input_of}
 
 -- the messages that an end has ever written; none, where there is no end
 abbrev pub wrote_of : Option Holder → List (List ℕ)

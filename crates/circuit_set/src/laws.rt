@@ -2,9 +2,9 @@
 ghost use Rattle.std.specs.Prelude.{◌≡◌, ℕ, ◌+◌, ◌*◌, ◌≤◌, ◌<◌, ◌%◌};
 ghost use Rattle.circuit_set.specs.Lines.{Line, Infos, overtakers_since, at_place};
 ghost use Rattle.circuit_set.specs.Laws.{OneCircuitSafe};
-ghost use Rattle.circuit_set.specs.Pairs.{PairsDiffer};
-ghost use Rattle.circuit_set.specs.Givings.{MadeAreGiven, MadeDiffer};
-ghost use Rattle.circuit_set.specs.Kept.{HoldsFew, KeepsItsShare, WindowsAreSmall};
+ghost use Rattle.circuit_table.specs.Pairs.{PairsDiffer};
+ghost use Rattle.circuit_table.specs.Givings.{MadeAreGiven, MadeDiffer};
+ghost use Rattle.circuit_table.specs.Kept.{HoldsFew};
 ghost use Rattle.circuit_set.specs.Naming.{PairNamesOne, RequestersSend};
 ghost use Rattle.circuit_set.specs.Owned.{EndsAreOwned};
 ghost use Rattle.circuit_set.specs.Safe.{RetriesAreTold, CircuitsSafe, PartnersLast};
@@ -14,11 +14,13 @@ ghost use Rattle.circuit_set.specs.Writings.{EndsWroteByWrites};
 ghost use Rattle.circuit_set.specs.Heedings.{SetsHeedPartners};
 ghost use Rattle.circuit_set.specs.Refusals.{RefusalsAreUnheeded, SetsRefuseUnder0, StartsAreNumbered};
 ghost use Rattle.circuit_set.specs.Sendings.{SetsSendTheirOwn};
-ghost use Rattle.circuit_set.specs.Pumps.{ActsGo, HearsGo, HearsLostGoes, TellsGo, TellsLess, TicksGo};
+ghost use Rattle.circuit_table.specs.Pumps.{ActsGo, HearsGo, HearsLostGoes, TellsGo, TicksGo};
 ghost use Rattle.circuit_set.specs.Examples.{CopyReturns, ForgedIsUnsafe, OneMoreIsTooMany, RestartIsStale};
 ghost use Rattle.circuit_set.specs.ByBook.{FreshByBook, PartnersByBook, TimelyBy128, TimelyByBook};
 ghost use Rattle.circuit_set.specs.ByBook.{HeldByBook, OvertakenByBook, TooManyByBook, UnaskedByBook, UnsentByBook};
 ghost use Rattle.circuit_set.specs.NotedRuns.{NarrowIsTimely, PartnersStay, WindowsFit};
+
+pub use circuit_table::laws::{kept, telling_ends};
 
 /// At each moment of every run of several nodes' ends, in which any datagram whatever may come to any node and any node may
 /// start again, and which is timely and fresh (`IsTimely` and `IsFresh` in `specs/TooLate.antt`): each end that has a partner has
@@ -153,13 +155,6 @@ pub fn holds_few()
     ensures { HoldsFew }
 {}
 
-/// The ends that a set holds keep at most 90,347 octets each, and 236 for each fragment of their windows, of which each is at most 127. What
-/// waits to be told isn't counted.
-pub fn kept()
-    ensures share { KeepsItsShare }
-    ensures windows { WindowsAreSmall }
-{}
-
 /// Of each window from 1 to 127: twice the window and the allowance for overtakers are at most 256 together, as many as there are
 /// numbers on the air.
 pub fn windows_fit()
@@ -200,11 +195,6 @@ pub fn calls_are_inputs()
     ensures tells { TellsGo }
     ensures hears { HearsGo }
     ensures lost { HearsLostGoes }
-{}
-
-/// What a set has to tell falls with each thing that it tells, whatever the carrier answers.
-pub fn telling_ends()
-    ensures { TellsLess }
 {}
 
 /// Whatever comes: each datagram that a set sends has its node's call as its origin, and its node's time to live.

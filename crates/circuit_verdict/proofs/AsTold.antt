@@ -2,9 +2,9 @@
 use Rattle.std.proofs.Common.{◌≡◌, ◌↔◌, ℕ, refl, sym, List, [], ◌∷◌, ◌++◌}
 use Rattle.std.specs.Prelude.{Option, Some, None}
 use Rattle.circuit_set.specs.Books.{Fresh, FreshTold, Timely, TimelyTold, empty, with_events, lost_in}
-use Rattle.circuit_set.specs.Events.{Event}
+use Rattle.circuit_table.specs.Events.{Event}
 use Rattle.circuit_set.specs.ByBook.{FreshByBook, TimelyBy128, TimelyByBook}
-use Rattle.circuit_set.specs.Sets.{CircuitTold, Made, Sent, Heeded, Notice, Gone, Restarted, Lost}
+use Rattle.circuit_table.specs.Sets.{CircuitTold, Made, Sent, Heeded, Notice, Gone, Restarted, Lost}
 use Rattle.circuit_set.specs.TooLate.{IsFresh, IsTimely}
 use Rattle.circuit_verdict.specs.declared.book.Book.{Book}
 use Rattle.circuit_verdict.specs.declared.event.Numbered.{Numbered}

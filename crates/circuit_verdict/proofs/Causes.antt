@@ -5,8 +5,8 @@ use Rattle.std.specs.List.{list_any}
 use Rattle.std.proofs.lemmas.Bool.Decides.{nat_tests}
 use Rattle.circuit_l4.specs.declared.pair.Pair.{Pair}
 use Rattle.circuit_set.specs.Books.{Book, FreshTold, HasRequester, MadeNote, NoOther, SentNote, TimelyTo, TimelyTold, empty, first_name, is_unknown, latest_in, with_events, overtakers, partner, requester, lost_in}
-use Rattle.circuit_set.specs.Events.{Event, Name}
-use Rattle.circuit_set.specs.Sets.{CircuitTold, Made, Sent, Heeded, Notice, Gone, Restarted, Lost}
+use Rattle.circuit_table.specs.Events.{Event, Name}
+use Rattle.circuit_table.specs.Sets.{CircuitTold, Made, Sent, Heeded, Notice, Gone, Restarted, Lost}
 use Rattle.circuit_verdict.specs.declared.cause.Cause.{Cause}
 use Rattle.circuit_verdict.specs.declared.cause.Cause.TheVariants.{Unsent, Overtaken, Unasked}
 use Rattle.circuit_verdict.specs.declared.ends.Ends.{Ends}

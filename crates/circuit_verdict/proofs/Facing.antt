@@ -2,7 +2,7 @@
 use Rattle.std.proofs.Common.{◌≡◌, ℕ, refl, List}
 use Rattle.circuit_l4.specs.declared.pair.Pair.{Pair}
 use Rattle.circuit_set.specs.Books.{MadeNote}
-use Rattle.circuit_set.specs.Events.{Name}
+use Rattle.circuit_table.specs.Events.{Name}
 use Rattle.circuit_verdict.specs.declared.ends.Ends.{Ends}
 use Rattle.circuit_verdict.specs.Ends.{EndsStand, faces, facing_in, given_in, has_open_partner, is_faced, is_open, kept_faced, kept_faces, kept_open, keeps_open_partner}
 use Rattle.circuit_verdict.proofs.Same.{any_same}

@@ -3,7 +3,7 @@ use Rattle.std.proofs.Common.{◌≡◌, ◌+◌, ◌∙◌, ℕ, refl, sym, ap,
 use Rattle.std.specs.Prelude.{Bool, true, false, not, cond, ◌&&◌, ◌||◌, if◌then◌else◌, nat_eq, nat_lt, filter, Option, Some, None}
 use Rattle.std.proofs.lemmas.Bool.Decides.{nat_tests}
 use Rattle.circuit_set.specs.Books.{HeardNote, SentNote, first_place, has, is_heard, is_number, overtakers, sends}
-use Rattle.circuit_set.specs.Events.{Name, same_name}
+use Rattle.circuit_table.specs.Events.{Name, same_name}
 use Rattle.circuit_verdict.specs.declared.message.Message.{Message}
 use Rattle.circuit_verdict.specs.Sendings.{HearsOnce, first_sent, heard_after, messages_in, with_message}
 use Rattle.circuit_verdict.proofs.Same.{name_same, name_is, name_turned, nat_same, nat_is}

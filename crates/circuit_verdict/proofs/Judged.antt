@@ -5,9 +5,9 @@ use Rattle.std.specs.Option.{option_copied}
 use Rattle.std.specs.Borrow.{Bor}
 use Rattle.ax_address.specs.Callsign.{Callsign}
 use Rattle.circuit_l4.specs.declared.pair.Pair.{Pair}
-use Rattle.circuit_set.specs.Sets as sets
+use Rattle.circuit_table.specs.Sets as sets
 use Rattle.circuit_set.specs.Books as books
-use Rattle.circuit_set.specs.Events.{Event, Name, is_copy, same_name}
+use Rattle.circuit_table.specs.Events.{Event, Name, is_copy, same_name}
 use Rattle.circuit_set.specs.Books.{HasRequester, HeardNote, SentNote, TimelyTo, has_sent, heard_number, heard_sending, if_asked, is_unknown, latest_to, latest_in, overtakers, partner, requester}
 use Rattle.circuit_verdict.specs.declared.book.Book.{Book}
 use Rattle.circuit_verdict.specs.declared.sendings.Sending.{Sending}

@@ -8,7 +8,7 @@ use Rattle.std.specs.declared.cmp.Ordering.TheVariants.{Less, Equal, Greater}
 use Rattle.std.specs.Cmp.Lexicographic.{pointwise, slice_cmp}
 use Rattle.l3_datagram.specs.declared.datagram.TheConstants.{HEAD_SIZE, TTL_AT}
 use Rattle.circuit_set.specs.Books.{SentNote, latest_in}
-use Rattle.circuit_set.specs.Events.{Name, is_copy, same_name}
+use Rattle.circuit_table.specs.Events.{Name, is_copy, same_name}
 use Rattle.circuit_verdict.specs.declared.sendings.Likeness.{Likeness}
 use Rattle.circuit_verdict.specs.declared.sendings.Sending.{Sending}
 use Rattle.circuit_verdict.specs.Sendings.{core, latest_like, likeness_cmp, name_cmp, sending_in, sending_of}

@@ -4,9 +4,9 @@ use Rattle.std.specs.Prelude.{Bool, true, false, not, ◌&&◌, ◌||◌, cond, 
 use Rattle.ax_address.specs.Callsign.{Callsign}
 use Rattle.circuit_l4.specs.declared.pair.Pair.{Pair}
 use Rattle.circuit_l4.specs.declared.notice.EndNotice.{EndNotice}
-use Rattle.circuit_set.specs.Sets.{same_pair}
+use Rattle.circuit_table.specs.Sets.{same_pair}
 use Rattle.circuit_set.specs.NotedRuns.{opened_window, told_to}
-use Rattle.circuit_set.specs.Events.{Name, same_name}
+use Rattle.circuit_table.specs.Events.{Name, same_name}
 use Rattle.circuit_set.specs.Books.{MadeNote, first_name, is_some_name, is_unknown, partner_in, was_asked, any_ends}
 use Rattle.circuit_verdict.specs.declared.ends.EndNote.{EndNote}
 use Rattle.circuit_verdict.specs.Ends.{fresh_note, given_in, is_going, is_made, partner_after_joining, made_note, note_in, note_is_going, note_of, with_facing}

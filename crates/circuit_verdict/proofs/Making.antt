@@ -4,9 +4,9 @@ use Rattle.std.specs.Prelude.{◌&&◌, cond, nat_eq, Option, Some, is_some}
 use Rattle.indexmap.specs.IndexMap.{get}
 use Rattle.ax_address.specs.Callsign.{Callsign, same_call}
 use Rattle.circuit_l4.specs.declared.pair.Pair.{Pair}
-use Rattle.circuit_set.specs.Sets.{same_pair}
+use Rattle.circuit_table.specs.Sets.{same_pair}
 use Rattle.circuit_set.specs.Books.{MadeNote}
-use Rattle.circuit_set.specs.Events.{Name, same_name}
+use Rattle.circuit_table.specs.Events.{Name, same_name}
 use Rattle.circuit_verdict.specs.declared.ends.Ends.{Ends}
 use Rattle.circuit_verdict.specs.Lists.{list_in}
 use Rattle.circuit_verdict.specs.Ends.{EndsStand, fresh_note, partner_after_joining, key_of, made_note, note_in, same_call_pair, same_node_pair, with_facing}

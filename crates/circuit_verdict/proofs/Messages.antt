@@ -3,7 +3,7 @@ use Rattle.std.proofs.Common.{◌≡◌, ◌≤◌, ◌<◌, ◌-◌, ℕ, zero,
 use Rattle.std.specs.Prelude.{Bool, true, false, not, cond, ◌&&◌, if◌then◌else◌, nat_lt, filter, Option, Some, None, slice_index_or}
 use Rattle.std.proofs.lemmas.List.Sorted.{IsNonDecreasingBy-push}
 use Rattle.circuit_set.specs.Books.{SentNote, has}
-use Rattle.circuit_set.specs.Events.{Name, same_name}
+use Rattle.circuit_table.specs.Events.{Name, same_name}
 use Rattle.circuit_verdict.specs.declared.message.Message.{Message}
 use Rattle.circuit_verdict.specs.Sendings.{AllUpTo, IsInOrder, Rises, first_sent, messages_in, with_message}
 

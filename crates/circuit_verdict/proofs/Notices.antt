@@ -6,7 +6,7 @@ use Rattle.circuit_l4.specs.declared.pair.Pair.{Pair}
 use Rattle.circuit_l4.specs.declared.notice.EndNotice.{EndNotice}
 use Rattle.circuit_l4.specs.declared.notice.EndNotice.TheVariants.{Opened, Refused, Closed, ClosedByPartner, FailedRetries, FailedOversize, FailedInactive}
 use Rattle.circuit_set.specs.Books.{MadeNote, any_ends, made_last, partner_in, was_asked, with_notice}
-use Rattle.circuit_set.specs.Events.{Name, ends_it, same_name}
+use Rattle.circuit_table.specs.Events.{Name, ends_it, same_name}
 use Rattle.circuit_set.specs.NotedRuns.{opened_window, told_to}
 use Rattle.circuit_verdict.specs.declared.ends.EndNote.{EndNote}
 use Rattle.circuit_verdict.specs.Ends.{facing_in, first_window, given_in, is_going, is_made, note_in, after_notice, after_notice_in, with_facing}

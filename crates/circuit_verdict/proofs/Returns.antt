@@ -5,9 +5,9 @@ use Rattle.std.specs.List.{list_any}
 use Rattle.std.proofs.lemmas.Bool.Decides.{nat_tests}
 use Rattle.std.proofs.lemmas.List.Folds.{list_any-append}
 use Rattle.circuit_l4.specs.declared.pair.Pair.{Pair}
-use Rattle.circuit_set.specs.Sets.{same_pair}
+use Rattle.circuit_table.specs.Sets.{same_pair}
 use Rattle.circuit_set.specs.Books.{Book, MadeNote, NoOther, any_ends, first_name, is_lost, is_some_name, partner_in}
-use Rattle.circuit_set.specs.Events.{Name, same_name}
+use Rattle.circuit_table.specs.Events.{Name, same_name}
 use Rattle.circuit_verdict.specs.Ends.{faces, facing_in, given_in, has_open_partner, is_faced, is_going, is_open, with_facing}
 use Rattle.circuit_verdict.proofs.Same.{name_is, name_same, nat_is, nat_same, pair_is, pair_same}
 use Rattle.circuit_verdict.proofs.Tests.{or_false, both_true, one_true, first_true, second_true, not_true}

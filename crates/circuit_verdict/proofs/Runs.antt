@@ -2,9 +2,9 @@
 use Rattle.std.proofs.Common.{◌≡◌, ◌+◌, ◌∙◌, ℕ, suc, refl, ap, arith, append_assoc, List, [], ◌∷◌, ◌++◌}
 use Rattle.std.specs.Prelude.{true, false, Option, Some, None, is_some}
 use Rattle.ax_address.specs.Callsign.{Callsign}
-use Rattle.circuit_set.specs.Sets.{CircuitTold, Made, Sent, Heeded, Notice, Gone, Restarted, Lost}
+use Rattle.circuit_table.specs.Sets.{CircuitTold, Made, Sent, Heeded, Notice, Gone, Restarted, Lost}
 use Rattle.circuit_set.specs.Books as books
-use Rattle.circuit_set.specs.Events.{Event, Name}
+use Rattle.circuit_table.specs.Events.{Event, Name}
 use Rattle.circuit_set.specs.Books.{Fresh, FreshFrom, FreshTold, Timely, TimelyTold, empty, lost_with, with_event, with_events, lost_in}
 use Rattle.circuit_verdict.specs.declared.book.Book.{Book}
 use Rattle.circuit_verdict.specs.declared.event.Event.{Event as Coming}

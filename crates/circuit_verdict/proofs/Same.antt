@@ -4,8 +4,8 @@ use Rattle.std.specs.Prelude.{Bool, true, nat_eq}
 use Rattle.std.specs.List.{list_any}
 use Rattle.std.proofs.lemmas.Bool.Decides.{nat_tests}
 use Rattle.circuit_l4.specs.declared.pair.Pair.{Pair}
-use Rattle.circuit_set.specs.Sets.{same_pair}
-use Rattle.circuit_set.specs.Events.{Name, same_name}
+use Rattle.circuit_table.specs.Sets.{same_pair}
+use Rattle.circuit_table.specs.Events.{Name, same_name}
 use Rattle.circuit_verdict.proofs.Tests.{both_true}
 
 pub nat_same : (a b : ℕ) → nat_eq a b ≡ true → a ≡ b

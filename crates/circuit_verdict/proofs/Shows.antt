@@ -6,8 +6,8 @@ use Rattle.std.proofs.lemmas.Bool.Decides.{nat_tests}
 use Rattle.circuit_l4.specs.declared.pair.Pair.{Pair}
 use Rattle.circuit_set.specs.Books.{Book, Fresh, MadeNote, SentNote, empty, first_name, is_unknown, latest_by, latest_in, lost_in, overtakers, partner, requester, with_events}
 use Rattle.circuit_set.specs.ByBook.{FreshByBook, HeldByBook, OvertakenByBook, TooManyByBook, UnaskedByBook, UnsentByBook}
-use Rattle.circuit_set.specs.Events.{Event, Name}
-use Rattle.circuit_set.specs.Sets.{CircuitTold, Made, Sent, Heeded, Notice, Gone, Restarted, Lost}
+use Rattle.circuit_table.specs.Events.{Event, Name}
+use Rattle.circuit_table.specs.Sets.{CircuitTold, Made, Sent, Heeded, Notice, Gone, Restarted, Lost}
 use Rattle.circuit_set.specs.Signs.{AreTooMany, StillHolds}
 use Rattle.circuit_verdict.specs.declared.allowance.Allowance.{Allowance}
 use Rattle.circuit_verdict.specs.declared.allowance.Allowance.TheVariants.{Fixed, OfWindow}

@@ -3,8 +3,8 @@
 use Rattle.std.specs.Prelude.{◌≡◌, ℕ, ◌≤◌, ◌&&◌, nat_le, is_some, if◌then◌else◌, List, [], filter, flat_map, slice_get, Option, Some, None}
 use Rattle.circuit_l4.specs.declared.pair.Pair.{Pair}
 use Rattle.circuit_set.specs.Books.{Book, MadeNote, SentNote, empty, is_unknown, latest_in, with_events, overtakers, partner, requester, lost_in}
-use Rattle.circuit_set.specs.Events.{Event, Name, same_name}
-use Rattle.circuit_set.specs.Sets.{Made, Heeded, CircuitTold}
+use Rattle.circuit_table.specs.Events.{Event, Name, same_name}
+use Rattle.circuit_table.specs.Sets.{Made, Heeded, CircuitTold}
 use Rattle.circuit_set.specs.Signs.{AreTooMany, IsUnasked, IsUnsent, OvertakenBy, StillHolds}
 use Rattle.circuit_set.specs.TooLate.{Allowing}
 use Rattle.indexmap.specs.IndexMap.{get}

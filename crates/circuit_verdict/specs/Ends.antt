@@ -5,9 +5,9 @@ use Rattle.ax_address.specs.Callsign.{Callsign, same_call}
 use Rattle.circuit_l4.specs.declared.pair.Pair.{Pair}
 use Rattle.circuit_l4.specs.declared.notice.EndNotice.{EndNotice}
 use Rattle.circuit_l4.specs.declared.notice.EndNotice.TheVariants.{Opened}
-use Rattle.circuit_set.specs.Sets.{same_pair}
+use Rattle.circuit_table.specs.Sets.{same_pair}
 use Rattle.circuit_set.specs.Books.{MadeNote, any_ends, is_lost, is_some_name, made_last, partner_in, was_asked}
-use Rattle.circuit_set.specs.Events.{Name, same_name}
+use Rattle.circuit_table.specs.Events.{Name, same_name}
 use Rattle.circuit_set.specs.NotedRuns.{opened_window, told_to}
 use Rattle.indexmap.specs.IndexMap.{get}
 use Rattle.indexmap.specs.IndexSet.{contains}

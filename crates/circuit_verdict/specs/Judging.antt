@@ -1,7 +1,7 @@
 -- What is kept stands for a book and the ends that were lost, and how an event is judged by it.
 use Rattle.std.specs.Prelude.{◌≡◌, List, Option, Some, None}
 use Rattle.circuit_set.specs.Books as books
-use Rattle.circuit_set.specs.Events.{Event, Name}
+use Rattle.circuit_table.specs.Events.{Event, Name}
 use Rattle.circuit_set.specs.Books.{FreshTold, TimelyTold, lost_with, with_event}
 use Rattle.circuit_verdict.specs.declared.book.Book.{Book}
 use Rattle.circuit_verdict.specs.declared.allowance.Allowance.{Allowance}

@@ -10,7 +10,7 @@ use Rattle.l3_datagram.specs.declared.datagram.TheConstants.{HEAD_SIZE, TTL_AT}
 use Rattle.indexmap.specs.IndexMap.{get}
 use Rattle.indexmap.specs.IndexSet.{contains}
 use Rattle.circuit_set.specs.Books.{HeardNote, SentNote, first_place, has, is_heard}
-use Rattle.circuit_set.specs.Events.{Name, same_name}
+use Rattle.circuit_table.specs.Events.{Name, same_name}
 use Rattle.circuit_verdict.specs.declared.message.MessageName.{MessageName}
 use Rattle.circuit_verdict.specs.declared.sendings.Likeness.{Likeness}
 use Rattle.circuit_verdict.specs.declared.message.Message.{Message}

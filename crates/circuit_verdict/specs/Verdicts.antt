@@ -2,10 +2,10 @@
 -- profile). `IsTimely` and `IsFresh` are those of the law of circuits.
 use Rattle.std.specs.Prelude.{◌≡◌, ℕ, ◌↔◌, List, [], ◌∷◌, ◌++◌, Option, Some, None}
 use Rattle.std.specs.Option.{option_copied}
-use Rattle.circuit_set.specs.Events.{Event}
+use Rattle.circuit_table.specs.Events.{Event}
 use Rattle.circuit_set.specs.TooLate.{Allowing, AllowsByWindow, IsFresh, IsTimely, allows_fixed}
-use Rattle.circuit_set.specs.Sets as sets
-use Rattle.circuit_set.specs.Events as events
+use Rattle.circuit_table.specs.Sets as sets
+use Rattle.circuit_table.specs.Events as events
 use Rattle.circuit_verdict.specs.declared.event.Numbered.{Numbered}
 use Rattle.circuit_verdict.specs.declared.allowance.Allowance.{Allowance}
 use Rattle.circuit_verdict.specs.declared.allowance.Allowance.TheVariants.{Fixed, OfWindow}

@@ -2,7 +2,7 @@
 ghost use Rattle.std.specs.Prelude.{◌≡◌, IfOk, List, Some};
 ghost use Rattle.std.specs.Option.{option_copied};
 ghost use Rattle.circuit_set.specs.Books as books;
-ghost use Rattle.circuit_set.specs.Events as events;
+ghost use Rattle.circuit_table.specs.Events as events;
 ghost use Rattle.circuit_verdict.specs.Causes as causes;
 ghost use Rattle.circuit_verdict.specs.Verdicts.{told_in_run};
 ghost use Rattle.circuit_verdict.specs.Judging as judged;

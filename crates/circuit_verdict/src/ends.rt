@@ -3,10 +3,10 @@ ghost use Rattle.std.specs.Prelude.{◌≡◌, ◌∷◌, ◌++◌, ◌&&◌, []
 ghost use Rattle.indexmap.specs.IndexMap.{get};
 ghost use Rattle.ax_address.specs.Callsign.{Callsign, same_call};
 ghost use Rattle.circuit_l4.specs.declared.pair.Pair.{Pair as SeenPair};
-ghost use Rattle.circuit_set.specs.Sets.{same_pair};
+ghost use Rattle.circuit_table.specs.Sets.{same_pair};
 ghost use Rattle.circuit_set.specs.Books as books;
 ghost use Rattle.circuit_set.specs.NotedRuns.{opened_window, told_to};
-ghost use Rattle.circuit_set.specs.Events as set_events;
+ghost use Rattle.circuit_table.specs.Events as set_events;
 ghost use Rattle.circuit_verdict.specs.Causes as causes;
 ghost use Rattle.circuit_verdict.specs.Ends as made;
 ghost use Rattle.circuit_verdict.specs.Lists.{list_in};

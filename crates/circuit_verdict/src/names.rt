@@ -11,7 +11,7 @@ pub(crate) struct Name {
 }
 
 impl Model for Name {
-    ghost use Rattle.circuit_set.specs.Events.{Name as EndName};
+    ghost use Rattle.circuit_table.specs.Events.{Name as EndName};
 
     ghost Value = { EndName };
 

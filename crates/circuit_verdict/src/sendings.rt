@@ -5,7 +5,7 @@ ghost use Rattle.indexmap.specs.IndexMap.{get};
 ghost use Rattle.indexmap.specs.IndexSet.{contains};
 ghost use Rattle.l3_datagram.specs.declared.datagram.TheConstants.{HEAD_SIZE as head_size};
 ghost use Rattle.circuit_set.specs.Books as books;
-ghost use Rattle.circuit_set.specs.Events as set_events;
+ghost use Rattle.circuit_table.specs.Events as set_events;
 ghost use Rattle.circuit_verdict.specs.Lists.{list_in};
 ghost use Rattle.circuit_verdict.specs.Sendings as sends;
 ghost use Rattle.circuit_verdict.specs.declared.sendings.Likeness.{Likeness as SeenLikeness};

@@ -4,7 +4,7 @@ use Rattle.std.specs.Prelude.{Bool, true, false, is_some, if◌then◌else◌, s
 use Rattle.std.specs.Option.{option_map}
 use Rattle.std.proofs.lemmas.List.{drop_all, length-map, length-take-le, map-append, take-append-drop, take_more}
 use Rattle.std.proofs.lemmas.Option.{slice_get-map}
-use Rattle.circuit_set.specs.Events as set_events
+use Rattle.circuit_table.specs.Events as set_events
 use Rattle.circuit_verdict.specs.Causes.{Shows, cause_after}
 use Rattle.circuit_verdict.specs.Verdicts.{AreInTime, allows_of, events_of}
 use Rattle.circuit_verdict.specs.Verdicts as told

@@ -4,14 +4,14 @@ use Rattle.std.specs.Prelude.{slice_get, slice_set, Option, Some, None}
 use Rattle.std.specs.List.{AllByRecursion}
 use Rattle.ax_address.specs.Callsign.{Callsign}
 use Rattle.circuit_l4.specs.Transports.{transport_at}
-use Rattle.circuit_set.specs.Events.{is_copy}
-use Rattle.circuit_set.specs.Events as events
+use Rattle.circuit_table.specs.Events.{is_copy}
+use Rattle.circuit_table.specs.Events as events
 use Rattle.circuit_set.specs.Heedings.{IsFor}
 use Rattle.circuit_set.specs.Refusals.{IsNumbered, IsRefusal, RefusalsAreUnheeded, RefusesUnder0, SetsRefuseUnder0, StartsAreNumbered}
-use Rattle.circuit_set.specs.Runs as net
-use Rattle.circuit_set.specs.Runs.{AreStarts, Step, events_of}
-use Rattle.circuit_set.specs.Sets as sets
-use Rattle.circuit_set.specs.Sets.{Act, SetState, CircuitTold, set_step}
+use Rattle.circuit_table.specs.Runs as net
+use Rattle.circuit_table.specs.Runs.{AreStarts, Step, events_of}
+use Rattle.circuit_table.specs.Sets as sets
+use Rattle.circuit_table.specs.Sets.{Act, SetState, CircuitTold, set_step}
 use Rattle.net_replay.proofs.Hopping.{all_parts, same_list}
 use Rattle.net_replay.proofs.Lists.{both, one_of}
 

@@ -5,12 +5,12 @@ use Rattle.std.specs.Cmp.Lexicographic.{pointwise}
 use Rattle.std.specs.List.{AllByRecursion}
 use Rattle.std.proofs.lemmas.Bool.Decides.{nat_tests}
 use Rattle.ax_address.specs.Callsign.{Callsign, same_call}
-use Rattle.circuit_set.specs.Events as events
+use Rattle.circuit_table.specs.Events as events
 use Rattle.circuit_set.specs.Returning.{told_at_node}
-use Rattle.circuit_set.specs.Runs as net
-use Rattle.circuit_set.specs.Runs.{Step, events_of, sets_run}
-use Rattle.circuit_set.specs.Sets as sets
-use Rattle.circuit_set.specs.Sets.{Act, SetState, CircuitTold}
+use Rattle.circuit_table.specs.Runs as net
+use Rattle.circuit_table.specs.Runs.{Step, events_of, sets_run}
+use Rattle.circuit_table.specs.Sets as sets
+use Rattle.circuit_table.specs.Sets.{Act, SetState, CircuitTold}
 use Rattle.network_file.specs.declared.plan.declarations.Declaration.{Declaration}
 use Rattle.network_file.specs.Plan.{Plan}
 use Rattle.node_core.specs.Carried.{Borne, Offered, Place, WasBorne, borne_in, is_borne, is_hop, is_of_node, is_passed, is_sent, offers_traced, sends_in}

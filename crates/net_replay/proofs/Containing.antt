@@ -4,13 +4,13 @@ use Rattle.std.specs.Prelude.{◌≢◌, ◌==◌, nat_eq, not, slice_get, slice
 use Rattle.std.specs.List.{AllByRecursion, position_or_len}
 use Rattle.std.proofs.lemmas.List.{map-append}
 use Rattle.circuit_l4.specs.declared.config.EndConfig.{EndConfig}
-use Rattle.circuit_set.specs.Givings.{IsUp}
-use Rattle.circuit_set.specs.Pumps.{runs, at_rest}
-use Rattle.circuit_set.specs.Pumps as pumps
-use Rattle.circuit_set.specs.Runs as net
-use Rattle.circuit_set.specs.Runs.{AreSteps, IsAct, Step, sets_at, sets_run}
-use Rattle.circuit_set.specs.Sets as sets
-use Rattle.circuit_set.specs.Sets.{Act, Holder, SetState, CircuitTold}
+use Rattle.circuit_table.specs.Givings.{IsUp}
+use Rattle.circuit_table.specs.Pumps.{runs, at_rest}
+use Rattle.circuit_table.specs.Pumps as pumps
+use Rattle.circuit_table.specs.Runs as net
+use Rattle.circuit_table.specs.Runs.{AreSteps, IsAct, Step, sets_at, sets_run}
+use Rattle.circuit_table.specs.Sets as sets
+use Rattle.circuit_table.specs.Sets.{Act, Holder, SetState, CircuitTold}
 use Rattle.network_file.specs.declared.plan.declarations.Declaration.{Declaration}
 use Rattle.network_file.specs.declared.plan.keys.Key.TheVariants.{TimeToLive}
 use Rattle.network_file.specs.Plan.{Plan}

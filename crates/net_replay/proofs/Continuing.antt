@@ -2,8 +2,8 @@
 use Rattle.std.proofs.Common.{ℕ, cond}
 use Rattle.std.specs.Prelude.{Bool, Option, Result}
 use Rattle.ax_address.specs.Callsign.{Callsign}
-use Rattle.circuit_set.specs.CircuitSets.{partner_at}
-use Rattle.circuit_set.specs.Sets.{end_of}
+use Rattle.circuit_table.specs.CircuitSets.{partner_at}
+use Rattle.circuit_table.specs.Sets.{end_of}
 use Rattle.node_core.specs.declared.acts.ActDone.{ActDone}
 use Rattle.node_core.specs.declared.acts.ActRefusal.{ActRefusal}
 use Rattle.node_core.specs.Acts as acts

@@ -3,12 +3,12 @@ use Rattle.std.proofs.Common.{◌≡◌, ◌∙◌, ℕ, refl, sym, ap, subst, L
 use Rattle.std.specs.Prelude.{false, slice_get, Option, Some}
 use Rattle.std.specs.List.{AllByRecursion}
 use Rattle.circuit_l4.specs.State.{inbox}
-use Rattle.circuit_set.specs.Events.{Event, Name}
+use Rattle.circuit_table.specs.Events.{Event, Name}
 use Rattle.circuit_set.specs.Safe.{IsBeginning, CircuitsSafe, IsSafe, PartnersLast, Safe, SafeBetween}
 use Rattle.circuit_set.specs.NotedRuns.{NarrowIsTimely}
 use Rattle.circuit_set.specs.ByBook.{FreshByBook, TimelyBy128, TimelyByBook}
-use Rattle.circuit_set.specs.Runs.{Step, end_in, end_named, events_of, sets_run}
-use Rattle.circuit_set.specs.Sets.{Holder, SetState, end_of}
+use Rattle.circuit_table.specs.Runs.{Step, end_in, end_named, events_of, sets_run}
+use Rattle.circuit_table.specs.Sets.{Holder, SetState, end_of}
 use Rattle.circuit_set.specs.TooLate.{Partners}
 use Rattle.network_file.specs.Laws.{SettingsFit}
 use Rattle.node_core.specs.Bridged.{Bridged, BridgedAt, IsBridged, IsEndsReader, IsEndsWriter, SessionsBridged, SessionsReadTheirEnds, SessionsWriteTheirEnds}

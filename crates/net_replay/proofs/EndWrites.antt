@@ -5,11 +5,11 @@ use Rattle.std.specs.List.{AllByRecursion}
 use Rattle.std.proofs.lemmas.Bool.Decides.{nat_tests}
 use Rattle.ax_address.specs.Callsign.{Callsign}
 use Rattle.circuit_l4.specs.Table.{write_answer}
-use Rattle.circuit_set.specs.Events.{Name}
+use Rattle.circuit_table.specs.Events.{Name}
 use Rattle.circuit_set.specs.Facing.{EndsStay}
 use Rattle.circuit_set.specs.NotedRuns.{Net, begins, end_at, net_run, net_step}
-use Rattle.circuit_set.specs.Runs.{AreStarts, Step, end_named, sets_run}
-use Rattle.circuit_set.specs.Sets.{Act, Calls, Closes, Comes, Connect, ConnectFor, Discard, Restart, Takes, Ticks, Writes, Holder, SetState}
+use Rattle.circuit_table.specs.Runs.{AreStarts, Step, end_named, sets_run}
+use Rattle.circuit_table.specs.Sets.{Act, Calls, Closes, Comes, Connect, ConnectFor, Discard, Restart, Takes, Ticks, Writes, Holder, SetState}
 use Rattle.circuit_set.specs.Writings.{EndsWroteByWrites, act_writes, called_writes, step_writes, wrote_of}
 use Rattle.network_file.specs.declared.plan.declarations.Declaration.{Declaration}
 use Rattle.node_core.specs.Runs.{steps_at, writes_in}

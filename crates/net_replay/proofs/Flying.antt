@@ -6,12 +6,12 @@ use Rattle.std.proofs.lemmas.Bool.{ltb-false}
 use Rattle.ax_address.specs.Callsign.{Callsign}
 use Rattle.ax_frame.specs.Frames.{IsAddress}
 use Rattle.circuit_l4.specs.declared.pair.Pair.{Pair}
-use Rattle.circuit_set.specs.Events as set_events
-use Rattle.circuit_set.specs.Pumps.{runs}
-use Rattle.circuit_set.specs.Pairs.{IsPair}
-use Rattle.circuit_set.specs.Runs.{Step, events_of, sets_run}
-use Rattle.circuit_set.specs.Sets as sets
-use Rattle.circuit_set.specs.Sets.{Act}
+use Rattle.circuit_table.specs.Events as set_events
+use Rattle.circuit_table.specs.Pumps.{runs}
+use Rattle.circuit_table.specs.Pairs.{IsPair}
+use Rattle.circuit_table.specs.Runs.{Step, events_of, sets_run}
+use Rattle.circuit_table.specs.Sets as sets
+use Rattle.circuit_table.specs.Sets.{Act}
 use Rattle.link_table.specs.Calls as links
 use Rattle.link_table.specs.Reaching.{IsCall}
 use Rattle.link_table.specs.Standing.{width}

@@ -6,9 +6,9 @@ use Rattle.std.specs.List.{AllByRecursion}
 use Rattle.std.proofs.lemmas.Bool.Decides.{nat_tests}
 use Rattle.std.proofs.lemmas.Cmp.{nat_list_eq_equiv}
 use Rattle.ax_address.specs.Callsign.{Callsign, same_call}
-use Rattle.circuit_set.specs.Events.{is_copy}
-use Rattle.circuit_set.specs.Events as events
-use Rattle.circuit_set.specs.Sets as sets
+use Rattle.circuit_table.specs.Events.{is_copy}
+use Rattle.circuit_table.specs.Events as events
+use Rattle.circuit_table.specs.Sets as sets
 use Rattle.network_file.specs.Plan.{Plan}
 use Rattle.node_core.specs.Carried.{Borne, borne_in, is_borne, ttl_of}
 use Rattle.net_replay.specs.declared.air.Aired.{Aired}

@@ -6,8 +6,8 @@ use Rattle.std.specs.List.{position_or_len}
 use Rattle.std.specs.Option.{option_map}
 use Rattle.std.proofs.lemmas.Option.{slice_get-map}
 use Rattle.ax_address.specs.Callsign.{Callsign}
-use Rattle.circuit_set.specs.Pumps as pumps
-use Rattle.circuit_set.specs.Sets as sets
+use Rattle.circuit_table.specs.Pumps as pumps
+use Rattle.circuit_table.specs.Sets as sets
 use Rattle.circuit_verdict.specs.declared.event.Numbered.{Numbered}
 use Rattle.circuit_verdict.specs.declared.late.Late.{Late}
 use Rattle.circuit_verdict.specs.declared.verdict.Verdict.{Verdict}

@@ -2,9 +2,9 @@
 use Rattle.std.proofs.Common.{◌≡◌, ◌∙◌, ℕ, refl, sym, ap, subst, List, [], ◌∷◌, ◌++◌, append_assoc, map}
 use Rattle.std.specs.Prelude.{slice_get, Option, Some, None}
 use Rattle.std.proofs.lemmas.List.{map-append}
-use Rattle.circuit_set.specs.Events as set_events
-use Rattle.circuit_set.specs.Pumps.{Of}
-use Rattle.circuit_set.specs.Sets.{Restarted, Lost, CircuitTold}
+use Rattle.circuit_table.specs.Events as set_events
+use Rattle.circuit_table.specs.Pumps.{Of}
+use Rattle.circuit_table.specs.Sets.{Restarted, Lost, CircuitTold}
 use Rattle.circuit_set.specs.TooLate.{Allowing, IsFresh, IsTimely}
 use Rattle.circuit_verdict.specs.Verdicts as told
 use Rattle.circuit_verdict.specs.Verdicts.{events_of, AreInTime, Fails, IsFirstLate, allows_of}

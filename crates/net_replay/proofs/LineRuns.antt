@@ -2,9 +2,9 @@
 use Rattle.std.proofs.Common.{◌≡◌, ◌∙◌, ◌+◌, ◌<◌, ◌≤◌, ℕ, zero, suc, refl, sym, ap, subst, arith, List, [], ◌∷◌, ◌++◌, map, filter, Bool, true, false, cond}
 use Rattle.std.specs.Prelude.{◌==◌, ◌||◌, not, slice_get, Some}
 use Rattle.std.specs.List.{AllByRecursion, position_or_len}
-use Rattle.circuit_set.specs.Pairs.{IsPair}
-use Rattle.circuit_set.specs.Runs.{Step, sets_run}
-use Rattle.circuit_set.specs.Sets.{Holder, SetState, end_of}
+use Rattle.circuit_table.specs.Pairs.{IsPair}
+use Rattle.circuit_table.specs.Runs.{Step, sets_run}
+use Rattle.circuit_table.specs.Sets.{Holder, SetState, end_of}
 use Rattle.network_file.specs.declared.plan.instructions.NumberedInstruction.{NumberedInstruction}
 use Rattle.network_file.specs.declared.plan.declarations.Declaration.{Declaration}
 use Rattle.network_file.specs.declared.plan.instructions.Instruction.{Instruction}

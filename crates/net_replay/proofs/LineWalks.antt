@@ -9,11 +9,11 @@ use Rattle.circuit_l4.specs.declared.facts.EndFacts.{EndFacts}
 use Rattle.circuit_l4.specs.declared.pair.Pair.{Pair}
 use Rattle.circuit_l4.specs.Opening.{facts_of}
 use Rattle.circuit_l4.specs.Table as table
-use Rattle.circuit_set.specs.CircuitSets.{facts_at}
-use Rattle.circuit_set.specs.declared.refusal.SetRefusal.TheVariants as set_refusal
-use Rattle.circuit_set.specs.Sets as sets
-use Rattle.circuit_set.specs.Sets.{Holder, end_of}
-use Rattle.circuit_set.specs.Standing.{by_write, write_answer}
+use Rattle.circuit_table.specs.CircuitSets.{facts_at}
+use Rattle.circuit_table.specs.declared.refusal.SetRefusal.TheVariants as set_refusal
+use Rattle.circuit_table.specs.Sets as sets
+use Rattle.circuit_table.specs.Sets.{Holder, end_of}
+use Rattle.circuit_table.specs.Standing.{by_write, write_answer}
 use Rattle.nodes_broadcast.specs.Nodes.{Broadcast, view}
 use Rattle.network_file.specs.declared.plan.instructions.NumberedInstruction.{NumberedInstruction}
 use Rattle.network_file.specs.declared.plan.instructions.Instruction.{Instruction}

@@ -9,10 +9,10 @@ use Rattle.circuit_l4.specs.Opening.{facts_of}
 use Rattle.circuit_l4.specs.Standing.{EndView, StandsFor}
 use Rattle.circuit_l4.specs.State.{State, is_up, inbox}
 use Rattle.circuit_l4.specs.Table as table
-use Rattle.circuit_set.specs.CircuitSets.{Circuits, LentStands, SetStands, facts_at, held_by, partner_at, requested_at}
-use Rattle.circuit_set.specs.Pumps.{Waiting, at_rest}
-use Rattle.circuit_set.specs.Sets.{Holder, end_of}
-use Rattle.circuit_set.specs.Standing.{by_write, take_answer, write_answer}
+use Rattle.circuit_table.specs.CircuitSets.{Circuits, LentStands, SetStands, facts_at, held_by, partner_at, requested_at}
+use Rattle.circuit_table.specs.Pumps.{Waiting, at_rest}
+use Rattle.circuit_table.specs.Sets.{Holder, end_of}
+use Rattle.circuit_table.specs.Standing.{by_write, take_answer, write_answer}
 use Rattle.link_table.specs.Standing.{TableView}
 use Rattle.node_core.specs.Standing.{Kept, NodeStands}
 use Rattle.node_turns.specs.States.{NodeState}

@@ -3,7 +3,7 @@ use Rattle.std.proofs.Common.{ℕ, ◌+◌, Bool, false, cond, List, [], ◌∷�
 use Rattle.std.specs.Prelude.{Option, None, option_map, unwrap_or, Result, Ok, is_ok, if◌then◌else◌}
 use Rattle.ax_address.specs.Callsign.{Callsign}
 use Rattle.circuit_l4.specs.declared.pair.Pair.{Pair}
-use Rattle.circuit_set.specs.Sets.{Holder}
+use Rattle.circuit_table.specs.Sets.{Holder}
 use Rattle.network_file.specs.Plan.{hearers, Plan}
 use Rattle.node_core.specs.declared.acts.ActDone.{ActDone}
 use Rattle.node_core.specs.declared.acts.ActDone.TheVariants.{Done}

@@ -4,14 +4,14 @@ use Rattle.std.specs.Prelude.{◌&&◌, ◌==◌, slice_get, Some, None, Ok, is_
 use Rattle.std.specs.List.{AllByRecursion}
 use Rattle.ax_address.specs.Callsign.{Callsign, same_call}
 use Rattle.circuit_set.specs.ByBook.{FreshByBook, PartnersByBook, TimelyBy128, TimelyByBook}
-use Rattle.circuit_set.specs.CircuitSets.{held_ids}
+use Rattle.circuit_table.specs.CircuitSets.{held_ids}
 use Rattle.circuit_set.specs.Facing.{EndsStay, PartnersFace}
 use Rattle.circuit_set.specs.NotedRuns.{NarrowIsTimely}
-use Rattle.circuit_set.specs.Pairs.{IsPair}
+use Rattle.circuit_table.specs.Pairs.{IsPair}
 use Rattle.circuit_set.specs.Returning.{CallsDiffer}
-use Rattle.circuit_set.specs.Runs.{AreStarts, Step, end_named}
+use Rattle.circuit_table.specs.Runs.{AreStarts, Step, end_named}
 use Rattle.circuit_set.specs.Safe.{CircuitsSafe, PartnersLast}
-use Rattle.circuit_set.specs.Sets.{Holder, SetState, end_of}
+use Rattle.circuit_table.specs.Sets.{Holder, SetState, end_of}
 use Rattle.circuit_set.specs.Writings.{EndsWroteByWrites}
 use Rattle.network_file.specs.declared.plan.instructions.NumberedInstruction.{NumberedInstruction}
 use Rattle.network_file.specs.declared.plan.declarations.Declaration.{Declaration}

@@ -5,12 +5,12 @@ use Rattle.std.specs.List.{AllByRecursion}
 use Rattle.ax_address.specs.Callsign.{Callsign, same_call}
 use Rattle.circuit_l4.specs.declared.pair.Pair.{Pair}
 use Rattle.circuit_set.specs.Facing.{EndsStay}
-use Rattle.circuit_set.specs.Pairs.{IsPair}
+use Rattle.circuit_table.specs.Pairs.{IsPair}
 use Rattle.circuit_set.specs.Returning.{CallsDiffer}
-use Rattle.circuit_set.specs.Runs.{AreStarts, AreSteps, Step, events_of}
-use Rattle.circuit_set.specs.Sets as sets
-use Rattle.circuit_set.specs.Sets.{Act, SetState, end_of}
-use Rattle.circuit_set.specs.CircuitSets.{facts_at}
+use Rattle.circuit_table.specs.Runs.{AreStarts, AreSteps, Step, events_of}
+use Rattle.circuit_table.specs.Sets as sets
+use Rattle.circuit_table.specs.Sets.{Act, SetState, end_of}
+use Rattle.circuit_table.specs.CircuitSets.{facts_at}
 use Rattle.circuit_set.specs.TooLate.{AllowsByWindow, IsFresh, IsTimely}
 use Rattle.circuit_set.specs.Writings.{EndsWroteByWrites}
 use Rattle.link_table.specs.Calls as links

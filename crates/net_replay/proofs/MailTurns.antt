@@ -7,15 +7,15 @@ use Rattle.circuit_l4.specs.Halves.{first_or}
 use Rattle.circuit_l4.specs.State.{inbox, is_up}
 use Rattle.circuit_set.specs.Books.{Book, Fresh, empty, with_event, with_events, partner}
 use Rattle.circuit_set.specs.ByBook.{FreshByBook, PartnersByBook}
-use Rattle.circuit_set.specs.CircuitSets.{partner_at}
-use Rattle.circuit_set.specs.Events.{Event, Name}
+use Rattle.circuit_table.specs.CircuitSets.{partner_at}
+use Rattle.circuit_table.specs.Events.{Event, Name}
 use Rattle.circuit_set.specs.Facing.{EndsStay, Faces, PartnersFace}
 use Rattle.circuit_set.specs.NotedRuns.{Net, begins, end_at, net_run, net_step}
 use Rattle.circuit_set.specs.Returning.{CallsDiffer}
-use Rattle.circuit_set.specs.Runs.{AreStarts, AreSteps, Step, end_in, end_named, events_of, sets_at, sets_run, told_at}
+use Rattle.circuit_table.specs.Runs.{AreStarts, AreSteps, Step, end_in, end_named, events_of, sets_at, sets_run, told_at}
 use Rattle.circuit_set.specs.Safe.{CircuitsSafe, PartnersLast, Safe, SafeAlone}
-use Rattle.circuit_set.specs.Sets.{Act, Holder, SetState, end_of, set_step}
-use Rattle.circuit_set.specs.Standing.{message_at, take_answer}
+use Rattle.circuit_table.specs.Sets.{Act, Holder, SetState, end_of, set_step}
+use Rattle.circuit_table.specs.Standing.{message_at, take_answer}
 use Rattle.circuit_set.specs.TooLate.{IsFresh, Partners}
 use Rattle.circuit_set.specs.Writings.{EndsWroteByWrites}
 use Rattle.network_file.specs.declared.plan.declarations.Declaration.{Declaration}

@@ -3,9 +3,9 @@ use Rattle.std.proofs.Common.{◌≡◌, ◌≤◌, ◌∙◌, ℕ, zero, suc, r
 use Rattle.std.specs.Prelude.{Option, Some, None, Result, Ok, Err, is_some, length, slice_get}
 use Rattle.std.specs.List.{AllByRecursion}
 use Rattle.ax_address.specs.Callsign.{Callsign}
-use Rattle.circuit_set.specs.CircuitSets.{held_ids, partner_at}
-use Rattle.circuit_set.specs.Sets.{end_of}
-use Rattle.circuit_set.specs.Standing.{take_answer}
+use Rattle.circuit_table.specs.CircuitSets.{held_ids, partner_at}
+use Rattle.circuit_table.specs.Sets.{end_of}
+use Rattle.circuit_table.specs.Standing.{take_answer}
 use Rattle.node_core.specs.declared.acts.ActDone.{ActDone}
 use Rattle.node_core.specs.declared.acts.ActDone.TheVariants.{Done, Made, Took}
 use Rattle.node_core.specs.declared.acts.ActRefusal.{ActRefusal}

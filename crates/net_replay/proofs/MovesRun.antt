@@ -3,12 +3,12 @@ use Rattle.std.proofs.Common.{◌≡◌, ◌∙◌, ◌+◌, ◌≤◌, ℕ, zer
 use Rattle.std.specs.Prelude.{slice_get, slice_set, Option, Some, None}
 use Rattle.std.specs.List.{AllByRecursion}
 use Rattle.circuit_l4.specs.declared.pair.Pair.{Pair}
-use Rattle.circuit_set.specs.Pumps.{runs, at_rest}
-use Rattle.circuit_set.specs.Pairs.{IsPair}
-use Rattle.circuit_set.specs.Runs as net
-use Rattle.circuit_set.specs.Runs.{Step, sets_run}
-use Rattle.circuit_set.specs.Sets as sets
-use Rattle.circuit_set.specs.Sets.{SetState, all_gone, losses}
+use Rattle.circuit_table.specs.Pumps.{runs, at_rest}
+use Rattle.circuit_table.specs.Pairs.{IsPair}
+use Rattle.circuit_table.specs.Runs as net
+use Rattle.circuit_table.specs.Runs.{Step, sets_run}
+use Rattle.circuit_table.specs.Sets as sets
+use Rattle.circuit_table.specs.Sets.{SetState, all_gone, losses}
 use Rattle.network_file.specs.Plan.{Plan}
 use Rattle.node_core.specs.Runs.{ActsRun, BytesRun, InputsAreSteps, IsUserAct, RunsOn, TicksRun, steps_at}
 use Rattle.node_turns.specs.States.{NodeState}

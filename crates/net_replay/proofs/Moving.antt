@@ -6,13 +6,13 @@ use Rattle.std.proofs.lemmas.List.{length-append}
 use Rattle.ax_address.specs.Callsign.{Callsign}
 use Rattle.circuit_l4.specs.declared.pair.Pair.{Pair}
 use Rattle.circuit_l4.specs.Opening.{facts_of}
-use Rattle.circuit_set.specs.Events as set_events
-use Rattle.circuit_set.specs.CircuitSets.{facts_at}
-use Rattle.circuit_set.specs.Pumps as pumps
-use Rattle.circuit_set.specs.Pumps.{at_rest}
-use Rattle.circuit_set.specs.Runs as net
-use Rattle.circuit_set.specs.Sets as sets
-use Rattle.circuit_set.specs.Sets.{Holder, SetState, CircuitTold, all_gone, end_of, losses}
+use Rattle.circuit_table.specs.Events as set_events
+use Rattle.circuit_table.specs.CircuitSets.{facts_at}
+use Rattle.circuit_table.specs.Pumps as pumps
+use Rattle.circuit_table.specs.Pumps.{at_rest}
+use Rattle.circuit_table.specs.Runs as net
+use Rattle.circuit_table.specs.Sets as sets
+use Rattle.circuit_table.specs.Sets.{Holder, SetState, CircuitTold, all_gone, end_of, losses}
 use Rattle.link_table.specs.Calls as links
 use Rattle.link_table.specs.declared.path_refusal.PathRefusal.{PathRefusal}
 use Rattle.network_file.specs.declared.plan.declarations.Declaration.{Declaration}

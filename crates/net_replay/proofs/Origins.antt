@@ -8,12 +8,12 @@ use Rattle.ax_address.specs.Callsign.{Callsign, name_in}
 use Rattle.ax_address.specs.Octets.{SpelledNetCallIsRead, WrittenNetCallSpellsIt, net_call_at, net_call_octets}
 use Rattle.ax_address.specs.declared.address_refusal.AddressRefusal.{AddressRefusal}
 use Rattle.ax_address.specs.Results.{◌>>=◌}
-use Rattle.circuit_set.specs.Events.{is_copy}
-use Rattle.circuit_set.specs.Events as set_events
-use Rattle.circuit_set.specs.Pumps as pumps
+use Rattle.circuit_table.specs.Events.{is_copy}
+use Rattle.circuit_table.specs.Events as set_events
+use Rattle.circuit_table.specs.Pumps as pumps
 use Rattle.circuit_set.specs.Sendings.{IsFrom}
-use Rattle.circuit_set.specs.Sets as sets
-use Rattle.circuit_set.specs.Sets.{CircuitTold}
+use Rattle.circuit_table.specs.Sets as sets
+use Rattle.circuit_table.specs.Sets.{CircuitTold}
 use Rattle.l3_datagram.specs.Datagrams.{call_from, fault_from, head_at, octets_with}
 use Rattle.l3_datagram.specs.declared.datagram.DatagramHead.{DatagramHead}
 use Rattle.l3_datagram.specs.declared.datagram.DatagramRefusal.{DatagramRefusal}

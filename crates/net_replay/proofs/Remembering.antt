@@ -16,9 +16,9 @@ use Rattle.circuit_l4.specs.Opening.{facts_of, requesting, responding}
 use Rattle.circuit_l4.specs.State.{Effect}
 use Rattle.circuit_l4.specs.Table.{Arrive, step}
 use Rattle.circuit_l4.specs.Transports.{transport_at}
-use Rattle.circuit_set.specs.Sets.{heeds, Act, Connect, ConnectFor, Comes, Calls, Discard, Restart, Call, Holder, SetDone, SetState, CircuitTold, Heeded, Made, Lost, Gone, Restarted, Sent, accept_again, all_gone, arrives_at, after_call, after_connecting_for, datagram_to, after_discarding, end_of, first_open, goes_to, hands_to, after_datagram, has_ended, held_pairs, holder_of, input_of, is_open, losses, named_by, opened_by, read_as, after_transport, after_request, after_new_request, after_restart, set_step, after_effect, told_by, does_nothing, with_end}
-use Rattle.circuit_set.specs.Pumps.{runs}
-use Rattle.circuit_set.specs.Pairs.{pair_after, next_free}
+use Rattle.circuit_table.specs.Sets.{heeds, Act, Connect, ConnectFor, Comes, Calls, Discard, Restart, Call, Holder, SetDone, SetState, CircuitTold, Heeded, Made, Lost, Gone, Restarted, Sent, accept_again, all_gone, arrives_at, after_call, after_connecting_for, datagram_to, after_discarding, end_of, first_open, goes_to, hands_to, after_datagram, has_ended, held_pairs, holder_of, input_of, is_open, losses, named_by, opened_by, read_as, after_transport, after_request, after_new_request, after_restart, set_step, after_effect, told_by, does_nothing, with_end}
+use Rattle.circuit_table.specs.Pumps.{runs}
+use Rattle.circuit_table.specs.Pairs.{pair_after, next_free}
 
 -- the ends that were lost: each is gone, and its number is below that of each end since
 pub record Past (base : ℕ) (past : List Holder) : Type 0 where

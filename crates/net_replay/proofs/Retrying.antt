@@ -1,7 +1,7 @@
 -- In each network an end is told that its retries are used up exactly where there was one expiry more than there are retries.
 use Rattle.std.proofs.Common.{subst, List, [], ◌∷◌, ◌++◌}
 use Rattle.circuit_set.specs.Safe as sets
-use Rattle.circuit_set.specs.Runs.{AreSteps, Step}
+use Rattle.circuit_table.specs.Runs.{AreSteps, Step}
 use Rattle.net_replay.specs.Promises.{NetworksAreSound, RunsThrough, WorldsAreRuns, first_sets, EachTellsRetries}
 
 front_steps : (xs ys : List Step) → AreSteps (xs ++ ys) → AreSteps xs

@@ -8,8 +8,8 @@ use Rattle.std.proofs.lemmas.Bool.Decides.{nat_tests}
 use Rattle.ax_address.specs.Callsign.{Callsign, same_call}
 use Rattle.circuit_set.specs.Returning as returning
 use Rattle.circuit_set.specs.Returning.{CallsDiffer, FreshBut, given_by}
-use Rattle.circuit_set.specs.Runs.{events_of}
-use Rattle.circuit_set.specs.Sets.{SetState}
+use Rattle.circuit_table.specs.Runs.{events_of}
+use Rattle.circuit_table.specs.Sets.{SetState}
 use Rattle.network_file.specs.declared.plan.declarations.Declaration.{Declaration}
 use Rattle.network_file.specs.Laws.{CallsDeclaredOnce, DeclaredOnce, HaveOwnCalls}
 use Rattle.network_file.specs.Places.{has_call}

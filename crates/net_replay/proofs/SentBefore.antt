@@ -6,15 +6,15 @@ use Rattle.ax_address.specs.Callsign.{Callsign, IsCallsign}
 use Rattle.ax_address.specs.Octets.{SpelledNetCallIsRead, WrittenNetCallSpellsIt}
 use Rattle.net_replay.specs.Circuits.{CircuitEvent, circuit_events}
 use Rattle.net_replay.specs.Events.{NumberedEvent}
-use Rattle.circuit_set.specs.Events as events
-use Rattle.circuit_set.specs.Pairs.{IsPair}
-use Rattle.circuit_set.specs.Runs as net
-use Rattle.circuit_set.specs.Runs.{AreStarts, Step, events_of, sets_run}
+use Rattle.circuit_table.specs.Events as events
+use Rattle.circuit_table.specs.Pairs.{IsPair}
+use Rattle.circuit_table.specs.Runs as net
+use Rattle.circuit_table.specs.Runs.{AreStarts, Step, events_of, sets_run}
 use Rattle.circuit_set.specs.Heedings.{SetsHeedPartners}
 use Rattle.circuit_set.specs.Refusals.{RefusalsAreUnheeded, SetsRefuseUnder0, StartsAreNumbered}
 use Rattle.circuit_set.specs.Sendings.{IsFrom, SendsFrom, SetsSendTheirOwn}
-use Rattle.circuit_set.specs.Sets as sets
-use Rattle.circuit_set.specs.Sets.{SetState, CircuitTold}
+use Rattle.circuit_table.specs.Sets as sets
+use Rattle.circuit_table.specs.Sets.{SetState, CircuitTold}
 use Rattle.link_table.specs.Reaching.{IsCall}
 use Rattle.link_table.specs.Standing.{width}
 use Rattle.kiss_framing.specs.Laws.{FendParts, FramesReadBack, LongFramesAreTooLong}

@@ -4,8 +4,8 @@ use Rattle.std.specs.Prelude.{◌&&◌, ◌==◌, find, unwrap_or, Some}
 use Rattle.std.specs.Option.{option_map}
 use Rattle.std.specs.List.{AllByRecursion}
 use Rattle.circuit_l4.specs.Opening as ends
-use Rattle.circuit_set.specs.Runs.{AreStarts, IsStart}
-use Rattle.circuit_set.specs.Sets.{SetState}
+use Rattle.circuit_table.specs.Runs.{AreStarts, IsStart}
+use Rattle.circuit_table.specs.Sets.{SetState}
 use Rattle.network_file.specs.declared.plan.instructions.NumberedInstruction.{NumberedInstruction}
 use Rattle.network_file.specs.declared.plan.declarations.Declaration.{Declaration}
 use Rattle.network_file.specs.declared.plan.instructions.Instruction.{Instruction}

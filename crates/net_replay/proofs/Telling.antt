@@ -5,8 +5,8 @@ use Rattle.std.specs.List.{flat_map, range_with_len}
 use Rattle.std.proofs.lemmas.List.{map-append}
 use Rattle.std.proofs.lemmas.Grind.{flat_map-append}
 use Rattle.circuit_l4.specs.declared.pair.Pair.{Pair}
-use Rattle.circuit_set.specs.CircuitSets.{facts_at}
-use Rattle.circuit_set.specs.Sets.{Holder, end_of}
+use Rattle.circuit_table.specs.CircuitSets.{facts_at}
+use Rattle.circuit_table.specs.Sets.{Holder, end_of}
 use Rattle.network_file.specs.Plan.{Plan}
 use Rattle.std.specs.Option.{option_map}
 use Rattle.net_replay.specs.Events.{Event, NumberedEvent, Restarted, Shown}

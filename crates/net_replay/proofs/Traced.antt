@@ -4,13 +4,13 @@ use Rattle.std.specs.Prelude.{nat_eq, nat_le, slice_get, Some, if◌then◌else�
 use Rattle.std.specs.List.{AllByRecursion, flat_map}
 use Rattle.std.proofs.lemmas.Bool.Decides.{nat_tests}
 use Rattle.ax_address.specs.Callsign.{Callsign}
-use Rattle.circuit_set.specs.Events as set_events
-use Rattle.circuit_set.specs.Pumps.{runs}
+use Rattle.circuit_table.specs.Events as set_events
+use Rattle.circuit_table.specs.Pumps.{runs}
 use Rattle.circuit_set.specs.Returning.{told_at_node}
-use Rattle.circuit_set.specs.Runs as net
-use Rattle.circuit_set.specs.Runs.{events_of}
-use Rattle.circuit_set.specs.Sets as sets
-use Rattle.circuit_set.specs.Sets.{Act, Holder, SetDone, SetState, CircuitTold}
+use Rattle.circuit_table.specs.Runs as net
+use Rattle.circuit_table.specs.Runs.{events_of}
+use Rattle.circuit_table.specs.Sets as sets
+use Rattle.circuit_table.specs.Sets.{Act, Holder, SetDone, SetState, CircuitTold}
 use Rattle.kiss_framing.specs.Stream.{escape_of, framed}
 use Rattle.kiss_framing.specs.Laws.{FendParts, FramesReadBack, LongFramesAreTooLong}
 use Rattle.kiss_framing.specs.Stream as kiss

@@ -4,9 +4,9 @@ use Rattle.std.specs.Prelude.{Option, Some, None, OnOk, Result, Ok, Err, nat_lt,
 use Rattle.radio_base.specs.declared.no_memory.NoMemory.{NoMemory}
 use Rattle.std.specs.Option.{option_map}
 use Rattle.ax_address.specs.Callsign.{Callsign, same_call}
-use Rattle.circuit_set.specs.CircuitSets.{partner_at}
-use Rattle.circuit_set.specs.Sets.{end_of}
-use Rattle.circuit_set.specs.Standing.{take_answer}
+use Rattle.circuit_table.specs.CircuitSets.{partner_at}
+use Rattle.circuit_table.specs.Sets.{end_of}
+use Rattle.circuit_table.specs.Standing.{take_answer}
 use Rattle.node_core.specs.declared.acts.ActDone.{ActDone}
 use Rattle.node_core.specs.declared.acts.ActDone.TheVariants.{Done, Made, Took}
 use Rattle.node_core.specs.declared.acts.ActRefusal.{ActRefusal}

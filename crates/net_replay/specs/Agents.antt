@@ -2,7 +2,7 @@
 use Rattle.std.specs.Prelude.{ℕ, ◌≡◌, Bool, true, false, List, drop, length, map, slice_set, Option, Some, None, is_none, Result, Ok, Err, if◌then◌else◌}
 use Rattle.ax_address.specs.Callsign.{Callsign}
 use Rattle.circuit_l4.specs.State.{is_up}
-use Rattle.circuit_set.specs.Sets.{Holder}
+use Rattle.circuit_table.specs.Sets.{Holder}
 use Rattle.node_mail.specs.declared.heard.Heard.{Heard}
 use Rattle.node_mail.specs.declared.post_refusal.PostRefusal.{PostRefusal}
 use Rattle.node_mail.specs.Lists.{Lists, answer_to, hear_at, hear_step, post_at, post_step, IsPostAnswer, octets_in}

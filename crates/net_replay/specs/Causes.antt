@@ -1,6 +1,6 @@
 -- By what it shows that something in a trace came too late. Own profile.
 use Rattle.std.specs.Prelude.{ℕ, suc, ◌≡◌, ◌+◌, List, [], ◌∷◌, ◌++◌, map, length, slice_get, slice_index, Bool, true, false, if◌then◌else◌, Option, Some, None}
-use Rattle.circuit_set.specs.Events as set_events
+use Rattle.circuit_table.specs.Events as set_events
 use Rattle.circuit_verdict.specs.Causes.{Shows, cause_after}
 use Rattle.circuit_verdict.specs.Verdicts.{AreInTime, allows_of, events_of}
 use Rattle.circuit_verdict.specs.declared.cause.Cause.{Cause}

@@ -1,8 +1,8 @@
 -- What was told of circuits in a network, the verdict on it, and what the replay of a file's network comes to. Own profile.
 use Rattle.std.specs.Prelude.{◌≡◌, ℕ, List, [], ◌∷◌, ◌++◌, map, slice_get, Option, Some, None, ◌<◌, ◌≤◌, length, Ok}
-use Rattle.circuit_set.specs.Events as set_events
-use Rattle.circuit_set.specs.Pumps.{Of}
-use Rattle.circuit_set.specs.Sets as sets
+use Rattle.circuit_table.specs.Events as set_events
+use Rattle.circuit_table.specs.Pumps.{Of}
+use Rattle.circuit_table.specs.Sets as sets
 use Rattle.circuit_verdict.specs.declared.event.Numbered.{Numbered}
 use Rattle.circuit_verdict.specs.declared.late.Late.{Late}
 use Rattle.circuit_verdict.specs.Verdicts as verdicts

@@ -2,10 +2,10 @@
 use Rattle.std.specs.Prelude.{ℕ, ◌≡◌, false, List, [], ◌++◌, slice_get, Contains, Some, None, Ok}
 use Rattle.std.specs.List.{AllByRecursion}
 use Rattle.circuit_l4.specs.State as ends
-use Rattle.circuit_set.specs.Events.{Event, Name}
+use Rattle.circuit_table.specs.Events.{Event, Name}
 use Rattle.circuit_set.specs.Safe.{IsBeginning}
-use Rattle.circuit_set.specs.Runs.{Step, end_named, events_of, sets_run}
-use Rattle.circuit_set.specs.Sets.{Holder, SetState}
+use Rattle.circuit_table.specs.Runs.{Step, end_named, events_of, sets_run}
+use Rattle.circuit_table.specs.Sets.{Holder, SetState}
 use Rattle.circuit_set.specs.TooLate.{HasPartner, Partners}
 use Rattle.network_file.specs.declared.plan.instructions.NumberedInstruction.{NumberedInstruction}
 use Rattle.network_file.specs.Networks.{network_of}

@@ -1,12 +1,12 @@
 -- Where the datagrams are from that reach their nodes, in a network whose nodes all have one modulus. Own profile.
 use Rattle.std.specs.Prelude.{ℕ, ◌≡◌, ◌≤◌, ◌+◌, ◌⊎◌, List, ◌∷◌, ◌++◌, Some, Ok, slice_get, Contains}
 use Rattle.std.specs.List.{AllByRecursion}
-use Rattle.circuit_set.specs.Givings.{IsUp}
+use Rattle.circuit_table.specs.Givings.{IsUp}
 use Rattle.circuit_set.specs.Heedings.{HeedsFor}
 use Rattle.circuit_set.specs.Returning as returning
-use Rattle.circuit_set.specs.Runs.{Step, events_of, sets_run}
+use Rattle.circuit_table.specs.Runs.{Step, events_of, sets_run}
 use Rattle.circuit_set.specs.Sendings.{IsFrom}
-use Rattle.circuit_set.specs.Sets.{Comes, Heeded, SetState, set_step}
+use Rattle.circuit_table.specs.Sets.{Comes, Heeded, SetState, set_step}
 use Rattle.l3_datagram.specs.Datagrams.{head_at}
 use Rattle.l3_datagram.specs.declared.datagram.DatagramHead.{DatagramHead}
 use Rattle.network_file.specs.declared.plan.instructions.NumberedInstruction.{NumberedInstruction}

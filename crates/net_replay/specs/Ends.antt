@@ -1,8 +1,8 @@
 -- The ends that a node ever made, as the events tell of them. Own profile.
 use Rattle.std.specs.Prelude.{ℕ, zero, suc, ◌-◌, ◌==◌, List, [], ◌∷◌, ◌++◌, slice_get, option_map, unwrap_or, if◌then◌else◌}
 use Rattle.std.specs.declared.vec.Vec.{Vec}
-use Rattle.circuit_set.specs.Pumps.{Of}
-use Rattle.circuit_set.specs.Sets as sets
+use Rattle.circuit_table.specs.Pumps.{Of}
+use Rattle.circuit_table.specs.Sets as sets
 use Rattle.node_turns.specs.States as nodes
 use Rattle.net_replay.specs.declared.ends.EndRecord.{EndRecord}
 use Rattle.net_replay.specs.declared.outcome.Outcome.{Outcome}

@@ -1,9 +1,9 @@
 -- What a verdict takes in of a trace, for the parts of the verdict. No public clause cites it: not for the reader of a contract.
 use Rattle.std.specs.Prelude.{◌≡◌, ℕ, List, [], ◌∷◌, ◌++◌, map, Option, Some, None}
 use Rattle.ax_address.specs.Callsign.{Callsign}
-use Rattle.circuit_set.specs.Pumps.{SetTold, Of}
-use Rattle.circuit_set.specs.Sets as sets
-use Rattle.circuit_set.specs.Sets.{CircuitTold}
+use Rattle.circuit_table.specs.Pumps.{SetTold, Of}
+use Rattle.circuit_table.specs.Sets as sets
+use Rattle.circuit_table.specs.Sets.{CircuitTold}
 use Rattle.circuit_verdict.specs.declared.event.Event.{Event as Coming}
 use Rattle.circuit_verdict.specs.declared.event.Numbered.{Numbered}
 use Rattle.circuit_verdict.specs.declared.verdict.Verdict.{Verdict}

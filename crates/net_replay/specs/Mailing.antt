@@ -3,10 +3,10 @@
 use Rattle.std.specs.Prelude.{ℕ, zero, suc, ◌&&◌, Bool, true, false, List, [], ◌∷◌, ◌++◌, length, map, filter, nat_lt, slice_get, slice_set, is_none, is_ok, is_some, Option, Some, None, option_map, unwrap_or, Result, Ok, Err, if◌then◌else◌}
 use Rattle.ax_address.specs.Callsign.{Callsign, same_call}
 use Rattle.circuit_l4.specs.State.{is_up}
-use Rattle.circuit_set.specs.CircuitSets.{facts_at, held_ids, partner_at}
-use Rattle.circuit_set.specs.declared.refusal.NoEnd.{NoEnd}
-use Rattle.circuit_set.specs.Sets.{Holder, end_of}
-use Rattle.circuit_set.specs.Standing.{take_answer, write_answer}
+use Rattle.circuit_table.specs.CircuitSets.{facts_at, held_ids, partner_at}
+use Rattle.circuit_table.specs.declared.refusal.NoEnd.{NoEnd}
+use Rattle.circuit_table.specs.Sets.{Holder, end_of}
+use Rattle.circuit_table.specs.Standing.{take_answer, write_answer}
 use Rattle.node_core.specs.declared.acts.ActDone.{ActDone}
 use Rattle.node_core.specs.declared.acts.ActDone.TheVariants.{Took}
 use Rattle.node_core.specs.declared.acts.ActRefusal.{ActRefusal}

@@ -2,12 +2,12 @@
 -- circuits and its mail. Own profile.
 use Rattle.std.specs.Prelude.{ℕ, ◌≡◌, ◌≤◌, List, [], ◌∷◌, ◌++◌, is_some, map, slice_get, Option, Some, None, Ok, true}
 use Rattle.std.specs.List.{AllByRecursion}
-use Rattle.circuit_set.specs.CircuitSets.{held_ids}
-use Rattle.circuit_set.specs.Events.{Name}
+use Rattle.circuit_table.specs.CircuitSets.{held_ids}
+use Rattle.circuit_table.specs.Events.{Name}
 use Rattle.circuit_set.specs.Safe.{TellsRetries, Safe, SafeEnd}
-use Rattle.circuit_set.specs.Runs.{Step, AreStarts, AreSteps, events_of, sets_run}
-use Rattle.circuit_set.specs.Sets.{Holder, end_of, SetState}
-use Rattle.circuit_set.specs.Pairs.{IsPair}
+use Rattle.circuit_table.specs.Runs.{Step, AreStarts, AreSteps, events_of, sets_run}
+use Rattle.circuit_table.specs.Sets.{Holder, end_of, SetState}
+use Rattle.circuit_table.specs.Pairs.{IsPair}
 use Rattle.network_file.specs.declared.plan.instructions.NumberedInstruction.{NumberedInstruction}
 use Rattle.network_file.specs.Networks.{network_of}
 use Rattle.network_file.specs.Plan.{Plan}

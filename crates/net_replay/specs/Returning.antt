@@ -1,7 +1,7 @@
 -- What alone can break Fresh in a network without restarts, whose nodes all have one modulus. Own profile.
 use Rattle.std.specs.Prelude.{ℕ, ◌≡◌, ◌≤◌, List, ◌++◌, Ok, map}
 use Rattle.std.specs.List.{AllByRecursion}
-use Rattle.circuit_set.specs.Events as set_events
+use Rattle.circuit_table.specs.Events as set_events
 use Rattle.circuit_set.specs.Returning.{FreshBut, given_by}
 use Rattle.network_file.specs.declared.plan.instructions.NumberedInstruction.{NumberedInstruction}
 use Rattle.network_file.specs.Networks.{network_of}

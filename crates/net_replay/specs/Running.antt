@@ -1,8 +1,8 @@
 -- A replay while it runs. No public clause cites it: not for the reader of a contract.
 use Rattle.std.specs.Prelude.{ℕ, zero, suc, ◌≡◌, min, List, [], ◌∷◌, ◌++◌, length, map, Option, Some, None, Result, Ok, Err, Bool, true, false, if◌then◌else◌, slice_get}
 use Rattle.circuit_l4.specs.declared.facts.EndFacts.{EndFacts}
-use Rattle.circuit_set.specs.CircuitSets.{facts_at}
-use Rattle.circuit_set.specs.Sets.{end_of}
+use Rattle.circuit_table.specs.CircuitSets.{facts_at}
+use Rattle.circuit_table.specs.Sets.{end_of}
 use Rattle.node_core.specs.declared.acts.ActDone.{ActDone}
 use Rattle.node_core.specs.declared.acts.ActDone.TheVariants as actions
 use Rattle.node_core.specs.declared.acts.ActRefusal.{ActRefusal}

@@ -13,9 +13,9 @@ use Rattle.circuit_l4.specs.declared.notice.EndNotice.TheVariants as notices
 use Rattle.circuit_l4.specs.declared.phase.EndPhase.TheVariants as phases
 use Rattle.l3_datagram.specs.declared.routed.Routed.{Routed}
 use Rattle.l3_datagram.specs.declared.routed.Routed.TheVariants as routed
-use Rattle.circuit_set.specs.CircuitSets.{facts_at}
-use Rattle.circuit_set.specs.Pumps.{SetTold, Of, Dropped}
-use Rattle.circuit_set.specs.Sets.{Holder, Notice, end_of}
+use Rattle.circuit_table.specs.CircuitSets.{facts_at}
+use Rattle.circuit_table.specs.Pumps.{SetTold, Of, Dropped}
+use Rattle.circuit_table.specs.Sets.{Holder, Notice, end_of}
 use Rattle.node_turns.specs.States as nodes
 use Rattle.net_replay.specs.declared.ends.EndRecord.{EndRecord}
 use Rattle.net_replay.specs.declared.outcome.Outcome.{Outcome}

@@ -1,7 +1,7 @@
 //! What each line does: something reaches a node, events are told, a node's frames are put in the air.
 ghost use Rattle.std.specs.Prelude.{◌≡◌, ◌∷◌, [], OnOk};
 ghost use Rattle.std.specs.List.{AllByRecursion};
-ghost use Rattle.circuit_set.specs.Pairs.{IsPair};
+ghost use Rattle.circuit_table.specs.Pairs.{IsPair};
 ghost use Rattle.node_core.specs.Acts as acts;
 ghost use Rattle.node_core.specs.Acts.{act_of};
 ghost use Rattle.net_replay.specs.Promises.{IsInstruction, IsLine};

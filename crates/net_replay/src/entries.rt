@@ -1,7 +1,7 @@
 //! What a report says of the entries of nodes, and of their ends as they were left.
 ghost use Rattle.std.specs.Prelude.{◌≡◌, ◌++◌, OnOk, IfOk, string_bytes};
 ghost use Rattle.net_replay.specs.ToldLines as texts;
-ghost use Rattle.circuit_set.specs.Standing.{event_told};
+ghost use Rattle.circuit_table.specs.Standing.{event_told};
 ghost use Rattle.node_core.specs.Standing.{entry_of};
 
 use crate::ends::EndRecord;

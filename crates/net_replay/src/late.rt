@@ -1,8 +1,8 @@
 //! The verdict on a trace.
 ghost use Rattle.std.specs.Prelude.{◌≡◌, List, map, ℕ, OnOk, IfOk, nat_le, if◌then◌else◌};
 ghost use Rattle.std.specs.Option.{option_copied, option_map};
-ghost use Rattle.circuit_set.specs.Sets as sets;
-ghost use Rattle.circuit_set.specs.Standing.{event_told};
+ghost use Rattle.circuit_table.specs.Sets as sets;
+ghost use Rattle.circuit_table.specs.Standing.{event_told};
 ghost use Rattle.circuit_verdict.specs.Verdicts.{told_in_run};
 ghost use Rattle.network_file.specs.Plan.{Plan};
 ghost use Rattle.node_core.specs.Standing.{entry_of};

@@ -1,6 +1,6 @@
 //! Restarts of nodes.
 ghost use Rattle.std.specs.Prelude.{◌≡◌, ◌≤◌, ◌<◌, ℕ, OnOk, length, slice_get, slice_index_or};
-ghost use Rattle.circuit_set.specs.Pairs.{IsPair};
+ghost use Rattle.circuit_table.specs.Pairs.{IsPair};
 ghost use Rattle.net_replay.specs.Lines as lines;
 ghost use Rattle.net_replay.specs.Running as running;
 ghost use Rattle.net_replay.specs.Running.{GoesOn, Stands, course};

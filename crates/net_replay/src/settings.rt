@@ -2,7 +2,7 @@
 ghost use Rattle.std.specs.Prelude.{◌≡◌, ◌≤◌};
 ghost use Rattle.ax_link.specs.State.{count_end};
 ghost use Rattle.circuit_l4.specs.Opening as ends;
-ghost use Rattle.circuit_set.specs.Pairs.{IsPair};
+ghost use Rattle.circuit_table.specs.Pairs.{IsPair};
 ghost use Rattle.node_core.specs.Configs.{IsConfig};
 ghost use Rattle.route_table.specs.Held.{AreRules};
 ghost use Rattle.net_replay.specs.Starting as starting;

@@ -2,8 +2,8 @@
 ghost use Rattle.std.specs.Prelude.{◌≡◌, ◌≤◌, ◌<◌, ◌+◌, ◌++◌, ◌∷◌, [], ℕ, List, filter, map, IfOk, OnOk};
 ghost use Rattle.arrayvec.specs.ArrayVec.{array_vec_len};
 ghost use Rattle.ax_address.specs.Callsign.{IsCallsign};
-ghost use Rattle.circuit_set.specs.Pairs.{IsPair};
-ghost use Rattle.circuit_set.specs.Runs.{AreStarts, IsStart};
+ghost use Rattle.circuit_table.specs.Pairs.{IsPair};
+ghost use Rattle.circuit_table.specs.Runs.{AreStarts, IsStart};
 ghost use Rattle.link_table.specs.Calls as links;
 ghost use Rattle.node_core.specs.Standing.{NodeGoes, NodeStands};
 ghost use Rattle.node_turns.specs.States.{NodeState, at_links};

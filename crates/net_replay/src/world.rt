@@ -1,6 +1,6 @@
 //! A replay while it runs, and its start.
 ghost use Rattle.std.specs.Prelude.{◌≡◌, IfOk};
-ghost use Rattle.circuit_set.specs.Runs.{AreStarts};
+ghost use Rattle.circuit_table.specs.Runs.{AreStarts};
 ghost use Rattle.net_replay.specs.Promises.{first_sets};
 ghost use Rattle.net_replay.specs.Running.{Stands, course};
 ghost use Rattle.net_replay.specs.World as worlds;

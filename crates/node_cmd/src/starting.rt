@@ -1,6 +1,6 @@
 //! A node that runs alone, as it starts.
 ghost use Rattle.std.specs.Prelude.{◌≡◌, IfOk};
-ghost use Rattle.circuit_set.specs.Pairs.{IsPair};
+ghost use Rattle.circuit_table.specs.Pairs.{IsPair};
 ghost use Rattle.node_core.specs.Configs.{IsConfig};
 ghost use Rattle.node_core.specs.Standing.{NodeStands};
 ghost use Rattle.node_cmd.specs.Starting as starting;

@@ -2,11 +2,11 @@
 use Rattle.std.proofs.Common.{◌≡◌, ℕ, ap, refl, subst, sym, List}
 use Rattle.std.specs.Prelude.{Bool, true, false, IsErrOf, IsTrue, Result, Err}
 use Rattle.ax_address.specs.Callsign.{Callsign}
-use Rattle.circuit_set.specs.CircuitSets.{Circuits, SetStands}
-use Rattle.circuit_set.specs.Pumps.{connect_answer, at_rest}
-use Rattle.circuit_set.specs.Sets.{SetState}
-use Rattle.circuit_set.specs.declared.refusal.ConnectRefusal.{ConnectRefusal}
-use Rattle.circuit_set.specs.declared.refusal.ConnectRefusal.TheVariants as connecting
+use Rattle.circuit_table.specs.CircuitSets.{Circuits, SetStands}
+use Rattle.circuit_table.specs.Pumps.{connect_answer, at_rest}
+use Rattle.circuit_table.specs.Sets.{SetState}
+use Rattle.circuit_table.specs.declared.refusal.ConnectRefusal.{ConnectRefusal}
+use Rattle.circuit_table.specs.declared.refusal.ConnectRefusal.TheVariants as connecting
 use Rattle.link_table.specs.Standing.{TableView as Kept}
 use Rattle.route_table.specs.Held.{StandsFor}
 use Rattle.route_table.specs.Log.{Item}

@@ -2,12 +2,12 @@
 use Rattle.std.proofs.Common.{◌≡◌, ◌≤◌, ◌+◌, ◌*◌, ◌∙◌, ◌⊎◌, inl, inr, ℕ, suc, ap, subst, arith, length, List, [], ◌∷◌}
 use Rattle.std.specs.Prelude.{Bool, true, false, if◌then◌else◌}
 use Rattle.ax_address.specs.Callsign.{Callsign}
-use Rattle.circuit_set.specs.CircuitSets.{held_ids}
-use Rattle.circuit_set.specs.Kept as ends
-use Rattle.circuit_set.specs.Sets as sets
-use Rattle.circuit_set.specs.Sets.{CircuitTold}
-use Rattle.circuit_set.specs.Standing.{EachStands, Here, Past}
-use Rattle.circuit_set.specs.declared.holder.Holder.{Holder}
+use Rattle.circuit_table.specs.CircuitSets.{held_ids}
+use Rattle.circuit_table.specs.Kept as ends
+use Rattle.circuit_table.specs.Sets as sets
+use Rattle.circuit_table.specs.Sets.{CircuitTold}
+use Rattle.circuit_table.specs.Standing.{EachStands, Here, Past}
+use Rattle.circuit_table.specs.declared.holder.Holder.{Holder}
 use Rattle.link_table.specs.Kept as links
 use Rattle.link_table.specs.Standing.{LinksStand}
 use Rattle.link_table.specs.Table.{Linked}

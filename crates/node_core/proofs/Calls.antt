@@ -3,10 +3,10 @@ use Rattle.std.proofs.Common.{◌≡◌, ◌<◌, ◌+◌, ◌++◌, ◌∙◌, 
 use Rattle.std.specs.Prelude.{Bool, true, false, ◌&&◌, nat_lt, is_none, if◌then◌else◌, Option, Some, None, Result, Ok, Err}
 use Rattle.std.proofs.lemmas.Bool.Decides.{nat_tests}
 use Rattle.ax_address.specs.Callsign.{Callsign}
-use Rattle.circuit_set.specs.Pumps.{TellsLess, Of, Dropped, Offers, Pumped, Says, SetTold, Turn, Turned, Waiting, at_rest, ends_with, is_drained, is_empty, offer_of, outcome, turn_step, weight, weights}
-use Rattle.circuit_set.specs.Pumps as pumps
-use Rattle.circuit_set.specs.Sets as sets
-use Rattle.circuit_set.specs.Sets.{SetState}
+use Rattle.circuit_table.specs.Pumps.{TellsLess, Of, Dropped, Offers, Pumped, Says, SetTold, Turn, Turned, Waiting, at_rest, ends_with, is_drained, is_empty, offer_of, outcome, turn_step, weight, weights}
+use Rattle.circuit_table.specs.Pumps as pumps
+use Rattle.circuit_table.specs.Sets as sets
+use Rattle.circuit_table.specs.Sets.{SetState}
 use Rattle.l3_datagram.specs.Datagrams.{CarrierCall, Collect, Fail, Parcel, head_at}
 use Rattle.l3_datagram.specs.Routers.{Way, Ends, ToNeighbour, way}
 use Rattle.l3_datagram.specs.declared.carrier.Offered.{Offered}

@@ -10,8 +10,8 @@ use Rattle.ax_frame.specs.declared.frame.FrameRefusal.{FrameRefusal}
 use Rattle.ax_frame.specs.Frames.{Frame, HeadWithoutFault, SpelledHeadIsRead, SpelledIsRead, read_at, read_head_at}
 use Rattle.ax_address.specs.declared.alias.Alias.{Alias}
 use Rattle.ax_address.specs.declared.entry.Entry.{Entry as Said}
-use Rattle.circuit_set.specs.Pumps.{runs, Waiting, at_rest}
-use Rattle.circuit_set.specs.Sets.{SetState, CircuitTold}
+use Rattle.circuit_table.specs.Pumps.{runs, Waiting, at_rest}
+use Rattle.circuit_table.specs.Sets.{SetState, CircuitTold}
 use Rattle.digi_path.specs.Paths.{Action, For_me, Repeat, Not_yet, Heard, action, behind, repeated}
 use Rattle.kiss_framing.specs.Stream as kiss
 use Rattle.l3_datagram.specs.Onward.{GoesOneHopOn}

@@ -2,8 +2,8 @@
 use Rattle.std.proofs.Common.{◌≡◌, ◌∙◌, ℕ, zero, suc, refl, sym, ap, subst, List, [], ◌∷◌, ◌++◌, append_assoc, append-nil}
 use Rattle.std.specs.Prelude.{Bool, true, false, if◌then◌else◌, nat_lt, Option, Some, None}
 use Rattle.ax_address.specs.Callsign.{Callsign}
-use Rattle.circuit_set.specs.Pumps.{OfEach, of_circuits, SetTold, Turn, Turned, Says, Offers, Waiting}
-use Rattle.circuit_set.specs.Sets.{Act, CircuitTold}
+use Rattle.circuit_table.specs.Pumps.{OfEach, of_circuits, SetTold, Turn, Turned, Says, Offers, Waiting}
+use Rattle.circuit_table.specs.Sets.{Act, CircuitTold}
 use Rattle.l3_datagram.specs.Datagrams.{Parcel}
 use Rattle.link_table.specs.Calls.{collect, tell_lost}
 use Rattle.node_turns.specs.Links as links

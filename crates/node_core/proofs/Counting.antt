@@ -7,9 +7,9 @@ use Rattle.std.specs.List.{AllByRecursion}
 use Rattle.ax_address.specs.Callsign.{Callsign, same_call}
 use Rattle.circuit_l4.specs.Opening.{facts_of}
 use Rattle.circuit_l4.specs.declared.facts.EndFacts.{EndFacts}
-use Rattle.circuit_set.specs.CircuitSets.{facts_at, held_ids}
-use Rattle.circuit_set.specs.Sets as sets
-use Rattle.circuit_set.specs.Sets.{Holder}
+use Rattle.circuit_table.specs.CircuitSets.{facts_at, held_ids}
+use Rattle.circuit_table.specs.Sets as sets
+use Rattle.circuit_table.specs.Sets.{Holder}
 use Rattle.link_table.specs.Ending.{has_link, tells_end}
 use Rattle.link_table.specs.Table.{Linked, link_with}
 use Rattle.node_turns.specs.declared.circuit.Circuit.{Circuit}

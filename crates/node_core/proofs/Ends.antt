@@ -2,8 +2,8 @@
 use Rattle.std.proofs.Common.{◌≡◌, ◌<◌, ◌∙◌, ◌⊎◌, inl, inr, ℕ, refl, sym, ap, subst, arith, List, [], ◌∷◌, ◌++◌}
 use Rattle.std.specs.Prelude.{Bool, true, false, ◌&&◌, nat_eq, if◌then◌else◌, Some}
 use Rattle.std.proofs.lemmas.Bool.Decides.{nat_tests}
-use Rattle.circuit_set.specs.Sets as s
-use Rattle.circuit_set.specs.Sets.{Holder}
+use Rattle.circuit_table.specs.Sets as s
+use Rattle.circuit_table.specs.Sets.{Holder}
 
 -- ---- all ends
 

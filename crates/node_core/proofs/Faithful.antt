@@ -3,7 +3,7 @@ use Rattle.std.proofs.Common.{◌≡◌, ◌≤◌, ◌+◌, ◌∙◌, ℕ, zer
 use Rattle.std.specs.Prelude.{Bool, true, false, not, ◌&&◌, nat_eq, nat_lt, filter, if◌then◌else◌, Option, Some, None}
 use Rattle.std.proofs.lemmas.Bool.Decides.{nat_tests}
 use Rattle.ax_address.specs.Callsign.{Callsign, ReadsCallTexts}
-use Rattle.circuit_set.specs.Pumps.{TellsLess}
+use Rattle.circuit_table.specs.Pumps.{TellsLess}
 use Rattle.link_table.specs.Laws.{CarriesWhatWasOffered}
 use Rattle.link_table.specs.Kept.{OffersLeave, TakesLower}
 use Rattle.node_turns.specs.declared.circuit.Circuit.{Circuit}

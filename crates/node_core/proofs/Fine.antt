@@ -9,13 +9,13 @@ use Rattle.circuit_l4.specs.Table as ends
 use Rattle.circuit_l4.specs.Halves.{first_or}
 use Rattle.circuit_l4.specs.declared.refusal.WriteRefusal.TheVariants as refusal
 use Rattle.circuit_reassembly.specs.Fragments.{fragments_of}
-use Rattle.circuit_set.specs.CircuitSets.{facts_at}
-use Rattle.circuit_set.specs.Pumps.{Of}
-use Rattle.circuit_set.specs.Sets as sets
-use Rattle.circuit_set.specs.Sets.{Holder, SetDone, SetState, CircuitTold, end_of, set_step}
-use Rattle.circuit_set.specs.Standing as answers
-use Rattle.circuit_set.specs.declared.refusal.SetRefusal.{SetRefusal}
-use Rattle.circuit_set.specs.declared.refusal.SetRefusal.TheVariants as set_refusal
+use Rattle.circuit_table.specs.CircuitSets.{facts_at}
+use Rattle.circuit_table.specs.Pumps.{Of}
+use Rattle.circuit_table.specs.Sets as sets
+use Rattle.circuit_table.specs.Sets.{Holder, SetDone, SetState, CircuitTold, end_of, set_step}
+use Rattle.circuit_table.specs.Standing as answers
+use Rattle.circuit_table.specs.declared.refusal.SetRefusal.{SetRefusal}
+use Rattle.circuit_table.specs.declared.refusal.SetRefusal.TheVariants as set_refusal
 use Rattle.link_table.specs.declared.text_refusal.TextRefusal.{TextRefusal}
 use Rattle.node_turns.specs.declared.user.User.{User}
 use Rattle.node_turns.specs.declared.user.User.TheVariants.{AtEnd, AtLink}

@@ -6,15 +6,15 @@ use Rattle.ax_address.specs.declared.address.Address.{Address}
 use Rattle.ax_address.specs.Callsign.{Callsign, same_call}
 use Rattle.circuit_l4.specs.Opening.{facts_of}
 use Rattle.circuit_l4.specs.Table.{step}
-use Rattle.circuit_set.specs.CircuitSets.{facts_at}
-use Rattle.circuit_set.specs.Pumps.{connect_answer}
-use Rattle.circuit_set.specs.Sets as sets
-use Rattle.circuit_set.specs.Sets.{Holder, SetDone, SetState, CircuitTold}
-use Rattle.circuit_set.specs.Standing.{by_write, write_answer}
+use Rattle.circuit_table.specs.CircuitSets.{facts_at}
+use Rattle.circuit_table.specs.Pumps.{connect_answer}
+use Rattle.circuit_table.specs.Sets as sets
+use Rattle.circuit_table.specs.Sets.{Holder, SetDone, SetState, CircuitTold}
+use Rattle.circuit_table.specs.Standing.{by_write, write_answer}
 use Rattle.circuit_l4.specs.Table as ends
-use Rattle.circuit_set.specs.declared.refusal.SetRefusal.TheVariants as set_refusal
-use Rattle.circuit_set.specs.declared.refusal.ConnectRefusal.{ConnectRefusal}
-use Rattle.circuit_set.specs.declared.refusal.SetRefusal.{SetRefusal}
+use Rattle.circuit_table.specs.declared.refusal.SetRefusal.TheVariants as set_refusal
+use Rattle.circuit_table.specs.declared.refusal.ConnectRefusal.{ConnectRefusal}
+use Rattle.circuit_table.specs.declared.refusal.SetRefusal.{SetRefusal}
 use Rattle.link_table.specs.Reaching.{IsCall}
 use Rattle.link_table.specs.declared.written.Written.{Written}
 use Rattle.route_table.specs.Table.{to_broadcast}

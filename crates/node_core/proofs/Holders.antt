@@ -13,10 +13,10 @@ use Rattle.circuit_l4.specs.declared.pair.Pair.{Pair}
 use Rattle.circuit_l4.specs.declared.transport.Transport.{Transport}
 use Rattle.circuit_l4.specs.declared.transport.Transport.TheVariants.{Request, Accept, Refuse, Disconnect, Disconnected, Info, InfoAck}
 use Rattle.circuit_l4.specs.declared.transport.TransportRefusal.{TransportRefusal}
-use Rattle.circuit_set.specs.CircuitSets.{facts_at}
-use Rattle.circuit_set.specs.Sets.{heeds, Call, Calls, Comes, ConnectFor, Holder, SetDone, SetState, CircuitTold, Closes, Takes, Ticks, Writes}
-use Rattle.circuit_set.specs.Sets as s
-use Rattle.circuit_set.proofs.Origins.{origin_read}
+use Rattle.circuit_table.specs.CircuitSets.{facts_at}
+use Rattle.circuit_table.specs.Sets.{heeds, Call, Calls, Comes, ConnectFor, Holder, SetDone, SetState, CircuitTold, Closes, Takes, Ticks, Writes}
+use Rattle.circuit_table.specs.Sets as s
+use Rattle.circuit_table.proofs.Origins.{origin_read}
 use Rattle.l3_datagram.specs.declared.datagram.DatagramHead.{DatagramHead}
 use Rattle.l3_datagram.specs.declared.datagram.DatagramRefusal.{DatagramRefusal}
 use Rattle.l3_datagram.specs.declared.datagram.TheConstants.{HEAD_SIZE}

@@ -6,10 +6,10 @@ use Rattle.std.proofs.lemmas.List.{map-append}
 use Rattle.ax_address.specs.Callsign.{Callsign}
 use Rattle.ax_address.specs.declared.alias.Alias.{Alias}
 use Rattle.ax_address.specs.declared.entry.Entry.{Entry as Reported}
-use Rattle.circuit_set.specs.CircuitSets as sets
-use Rattle.circuit_set.specs.CircuitSets.{Circuits, SetStands}
-use Rattle.circuit_set.specs.Pumps.{Waiting, at_rest}
-use Rattle.circuit_set.specs.Sets.{SetState}
+use Rattle.circuit_table.specs.CircuitSets as sets
+use Rattle.circuit_table.specs.CircuitSets.{Circuits, SetStands}
+use Rattle.circuit_table.specs.Pumps.{Waiting, at_rest}
+use Rattle.circuit_table.specs.Sets.{SetState}
 use Rattle.l3_datagram.specs.Routers.{Routing}
 use Rattle.link_table.specs.Calls.{fetch}
 use Rattle.link_table.specs.Table.{written, Table}

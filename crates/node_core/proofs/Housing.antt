@@ -8,8 +8,8 @@ use Rattle.ax_frame.specs.declared.frame.FrameRefusal.{FrameRefusal}
 use Rattle.ax_frame.specs.declared.head.Head.{Head}
 use Rattle.ax_frame.specs.Frames.{Frame, read_at, read_head_at}
 use Rattle.ax_link.specs.declared.notice.LinkNotice.{LinkNotice}
-use Rattle.circuit_set.specs.Pumps.{Dropped, Lost, Of, Offers, Says, SetTold, Turn, Turned}
-use Rattle.circuit_set.specs.Sets as sets
+use Rattle.circuit_table.specs.Pumps.{Dropped, Lost, Of, Offers, Says, SetTold, Turn, Turned}
+use Rattle.circuit_table.specs.Sets as sets
 use Rattle.digi_path.specs.Paths.{Action, For_me, Heard, Not_yet, Repeat, action}
 use Rattle.kiss_framing.specs.Stream as kiss
 use Rattle.l3_datagram.specs.Datagrams.{Parcel}

@@ -9,13 +9,13 @@ use Rattle.circuit_l4.specs.Opening.{facts_of}
 use Rattle.circuit_l4.specs.State.{Effect, Out, begin, inbox}
 use Rattle.circuit_l4.specs.Table.{take_first}
 use Rattle.circuit_l4.specs.declared.notice.EndNotice.{EndNotice}
-use Rattle.circuit_set.specs.CircuitSets as sets
-use Rattle.circuit_set.specs.CircuitSets.{Circuits, SetStands}
-use Rattle.circuit_set.specs.Pumps.{at_rest}
-use Rattle.circuit_set.specs.Sets as s
-use Rattle.circuit_set.specs.Sets.{SetDone, SetState, CircuitTold}
-use Rattle.circuit_set.specs.Standing.{EachStands, Keeps, Rests, if_so, sendings_by, take_answer, untold_of}
-use Rattle.circuit_set.specs.declared.holder.Holder.{Holder}
+use Rattle.circuit_table.specs.CircuitSets as sets
+use Rattle.circuit_table.specs.CircuitSets.{Circuits, SetStands}
+use Rattle.circuit_table.specs.Pumps.{at_rest}
+use Rattle.circuit_table.specs.Sets as s
+use Rattle.circuit_table.specs.Sets.{SetDone, SetState, CircuitTold}
+use Rattle.circuit_table.specs.Standing.{EachStands, Keeps, Rests, if_so, sendings_by, take_answer, untold_of}
+use Rattle.circuit_table.specs.declared.holder.Holder.{Holder}
 use Rattle.link_table.specs.Standing.{TableView as Kept}
 use Rattle.node_turns.specs.Links as circuits
 use Rattle.node_core.specs.Going.{SetHoldsTold}

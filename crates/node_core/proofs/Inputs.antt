@@ -3,10 +3,10 @@ use Rattle.std.proofs.Common.{◌≡◌, ◌∙◌, ℕ, refl, sym, ap, List, []
 use Rattle.std.specs.Prelude.{Bool, true, false, if◌then◌else◌, Option, Some, None, Result, Ok, Err}
 use Rattle.std.specs.List.{AllByRecursion}
 use Rattle.ax_address.specs.Callsign.{Callsign, IsCallsign}
-use Rattle.circuit_set.specs.Givings.{IsUp}
-use Rattle.circuit_set.specs.Pumps.{OfEach, of_circuits, runs, ticks_of, Dropped, Offers, Says, Turn, Turned, Waiting, heard_as, hears_by, sent_by_head, sent_to, tells_first, tells_of, with_done}
-use Rattle.circuit_set.specs.Runs.{IsAct}
-use Rattle.circuit_set.specs.Sets.{Act, Connect, ConnectFor, Comes, Calls, Discard, Restart, Ticks, Holder, SetState, CircuitTold, Made, Sent, Heeded, Notice, Gone, Restarted, Lost, set_step}
+use Rattle.circuit_table.specs.Givings.{IsUp}
+use Rattle.circuit_table.specs.Pumps.{OfEach, of_circuits, runs, ticks_of, Dropped, Offers, Says, Turn, Turned, Waiting, heard_as, hears_by, sent_by_head, sent_to, tells_first, tells_of, with_done}
+use Rattle.circuit_table.specs.Runs.{IsAct}
+use Rattle.circuit_table.specs.Sets.{Act, Connect, ConnectFor, Comes, Calls, Discard, Restart, Ticks, Holder, SetState, CircuitTold, Made, Sent, Heeded, Notice, Gone, Restarted, Lost, set_step}
 use Rattle.l3_datagram.specs.Datagrams.{Parcel, head_at}
 use Rattle.l3_datagram.specs.Routers.{Way, Ends, ToNeighbour, forwarded_by, way}
 use Rattle.l3_datagram.specs.declared.datagram.DatagramHead.{DatagramHead}

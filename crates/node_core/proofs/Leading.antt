@@ -2,11 +2,11 @@
 use Rattle.std.proofs.Common.{◌≡◌, ◌++◌, ◌∙◌, ℕ, refl, sym, ap, subst, List, [], ◌∷◌, append-nil, map}
 use Rattle.std.specs.Prelude.{Option, Some, None}
 use Rattle.std.specs.Option.{option_map}
-use Rattle.circuit_set.specs.CircuitSets.{Circuits, DoesPump, Pumps}
-use Rattle.circuit_set.specs.Pumps.{TellsLess, Pumped, SetTold}
-use Rattle.circuit_set.specs.Pumps as pumps
-use Rattle.circuit_set.specs.Standing.{event_told}
-use Rattle.circuit_set.specs.declared.event.SetEvent.{SetEvent}
+use Rattle.circuit_table.specs.CircuitSets.{Circuits, DoesPump, Pumps}
+use Rattle.circuit_table.specs.Pumps.{TellsLess, Pumped, SetTold}
+use Rattle.circuit_table.specs.Pumps as pumps
+use Rattle.circuit_table.specs.Standing.{event_told}
+use Rattle.circuit_table.specs.declared.event.SetEvent.{SetEvent}
 use Rattle.l3_datagram.specs.Datagrams.{Parcel}
 use Rattle.l3_datagram.specs.Routers.{SameRouter}
 use Rattle.l3_datagram.specs.declared.carrier.Offered.{Offered}

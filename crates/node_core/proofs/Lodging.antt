@@ -8,8 +8,8 @@ use Rattle.ax_address.specs.Callsign.{Callsign, same_call}
 use Rattle.ax_link.specs.declared.notice.LinkNotice.{LinkNotice}
 use Rattle.ax_link.specs.declared.notice.LinkNotice.TheVariants as link
 use Rattle.circuit_l4.specs.declared.notice.EndNotice.{EndNotice}
-use Rattle.circuit_set.specs.Pumps.{Of}
-use Rattle.circuit_set.specs.Sets.{CircuitTold, Made, Sent, Heeded, Notice, Gone, Restarted, Lost}
+use Rattle.circuit_table.specs.Pumps.{Of}
+use Rattle.circuit_table.specs.Sets.{CircuitTold, Made, Sent, Heeded, Notice, Gone, Restarted, Lost}
 use Rattle.l3_datagram.specs.Datagrams.{Datagram}
 use Rattle.link_table.specs.Ending.{EndsAreTold, IsInOrder, Leaves, LeavesTold, TextsAreOfLinks, has_link, is_end, stands_or_told, tells_end}
 use Rattle.link_table.specs.Table.{Table}

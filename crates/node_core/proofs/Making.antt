@@ -12,9 +12,9 @@ use Rattle.circuit_l4.specs.declared.pair.Pair.{Pair}
 use Rattle.circuit_l4.specs.declared.transport.Transport.{Transport}
 use Rattle.circuit_l4.specs.declared.transport.Transport.TheVariants.{Request, Accept, Refuse, Disconnect, Disconnected, Info, InfoAck}
 use Rattle.circuit_l4.specs.declared.transport.TransportRefusal.{TransportRefusal}
-use Rattle.circuit_set.specs.Sets.{heeds, Act, Connect, ConnectFor, Comes, Calls, Discard, Restart, Call, Holder, SetDone, SetState, CircuitTold, Made, Sent, Heeded, Notice, Gone, Restarted, Lost, end_of, first_open, set_step}
-use Rattle.circuit_set.specs.Pumps.{runs}
-use Rattle.circuit_set.specs.Sets as s
+use Rattle.circuit_table.specs.Sets.{heeds, Act, Connect, ConnectFor, Comes, Calls, Discard, Restart, Call, Holder, SetDone, SetState, CircuitTold, Made, Sent, Heeded, Notice, Gone, Restarted, Lost, end_of, first_open, set_step}
+use Rattle.circuit_table.specs.Pumps.{runs}
+use Rattle.circuit_table.specs.Sets as s
 use Rattle.l3_datagram.specs.Datagrams.{head_at}
 use Rattle.l3_datagram.specs.declared.datagram.DatagramHead.{DatagramHead}
 use Rattle.l3_datagram.specs.declared.datagram.DatagramRefusal.{DatagramRefusal}

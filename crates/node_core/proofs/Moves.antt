@@ -9,9 +9,9 @@ use Rattle.link_table.specs.Reaching.{IsWay}
 use Rattle.ax_address.specs.Callsign.{Callsign}
 use Rattle.ax_address.specs.declared.alias.Alias.{Alias}
 use Rattle.ax_address.specs.declared.entry.Entry.{Entry as Said}
-use Rattle.circuit_set.specs.Pumps.{ticks_of}
-use Rattle.circuit_set.specs.Sets as sets
-use Rattle.circuit_set.specs.Sets.{Act, Holder, set_step}
+use Rattle.circuit_table.specs.Pumps.{ticks_of}
+use Rattle.circuit_table.specs.Sets as sets
+use Rattle.circuit_table.specs.Sets.{Act, Holder, set_step}
 use Rattle.l3_datagram.specs.Onward.{GoesOneHopOn}
 use Rattle.link_table.specs.Table.{written, Table}
 use Rattle.link_table.specs.Frames as frames

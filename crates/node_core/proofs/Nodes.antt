@@ -4,7 +4,7 @@ use Rattle.std.specs.Prelude.{Bool, true, false, Some, Result, Ok, Err, OnOk, On
 use Rattle.std.specs.List.{AllByRecursion}
 use Rattle.std.proofs.lemmas.List.{drop_at, take_all}
 use Rattle.std.proofs.lemmas.Bool.Decides.{nat_tests}
-use Rattle.circuit_set.specs.Pumps.{Waiting, at_rest, is_drained, TellsLess}
+use Rattle.circuit_table.specs.Pumps.{Waiting, at_rest, is_drained, TellsLess}
 use Rattle.kiss_framing.specs.Stream as kiss
 use Rattle.kiss_framing.specs.Feeding.{handed_out}
 use Rattle.kiss_framing.specs.Stream.{Item, items}

@@ -3,9 +3,9 @@ use Rattle.std.proofs.Common.{◌≡◌, ◌≤◌, ◌+◌, ◌∙◌, ℕ, zer
 use Rattle.std.specs.Prelude.{Bool, true, false, nat_eq, if◌then◌else◌, Option, Some, None}
 use Rattle.std.proofs.lemmas.Bool.Decides.{nat_tests}
 use Rattle.circuit_l4.specs.declared.notice.EndNotice.{EndNotice}
-use Rattle.circuit_set.specs.Pumps.{Of}
-use Rattle.circuit_set.specs.Sets as s
-use Rattle.circuit_set.specs.Sets.{SetState, CircuitTold}
+use Rattle.circuit_table.specs.Pumps.{Of}
+use Rattle.circuit_table.specs.Sets as s
+use Rattle.circuit_table.specs.Sets.{SetState, CircuitTold}
 use Rattle.node_turns.specs.declared.circuit.Circuit.{Circuit}
 use Rattle.node_turns.specs.declared.stage.Stage.{Stage}
 use Rattle.node_turns.specs.declared.stage.Stage.TheVariants.{AtPrompt, Trying, Failed, Connected}

@@ -2,7 +2,7 @@
 use Rattle.std.proofs.Common.{ℕ, arith, List, [], ◌∷◌}
 use Rattle.std.specs.List.{AllByRecursion}
 use Rattle.ax_address.specs.Callsign.{ReadsCallTexts}
-use Rattle.circuit_set.specs.Pumps.{TellsLess}
+use Rattle.circuit_table.specs.Pumps.{TellsLess}
 use Rattle.kiss_framing.specs.Stream as kiss
 use Rattle.link_table.specs.Ending.{EndsAreTold, TextsAreOfLinks}
 use Rattle.link_table.specs.Laws.{CarriesWhatWasOffered}

@@ -2,10 +2,10 @@
 use Rattle.std.proofs.Common.{◌≡◌, ℕ, zero, suc, List, [], ◌∷◌, ◌++◌}
 use Rattle.std.specs.Prelude.{Bool, true, false, if◌then◌else◌, nat_lt, Option, Some, None, Result, Ok, Err}
 use Rattle.ax_address.specs.Callsign.{Callsign}
-use Rattle.circuit_set.specs.Pumps.{OfEach, Of, Offers, Says, Turn, Turned, Waiting}
-use Rattle.circuit_set.specs.Pumps as pumps
-use Rattle.circuit_set.specs.Sets as sets
-use Rattle.circuit_set.specs.Sets.{SetState, CircuitTold, set_step}
+use Rattle.circuit_table.specs.Pumps.{OfEach, Of, Offers, Says, Turn, Turned, Waiting}
+use Rattle.circuit_table.specs.Pumps as pumps
+use Rattle.circuit_table.specs.Sets as sets
+use Rattle.circuit_table.specs.Sets.{SetState, CircuitTold, set_step}
 use Rattle.l3_datagram.specs.Datagrams.{Datagram, Parcel, head_at}
 use Rattle.l3_datagram.specs.Routers.{Way, Ends, ToNeighbour, forwarded_by, way}
 use Rattle.l3_datagram.specs.declared.carrier.Offered.{Offered}

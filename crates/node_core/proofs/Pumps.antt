@@ -3,10 +3,10 @@ use Rattle.std.proofs.Common.{◌≡◌, ◌∙◌, ◌≤◌, ℕ, zero, suc, r
 use Rattle.std.specs.Prelude.{Bool, true, false, if◌then◌else◌, nat_lt, nat_le, nat_eq, Option, Some, None, Result, Ok, Err}
 use Rattle.std.specs.List.{AllByRecursion}
 use Rattle.ax_address.specs.Callsign.{Callsign, same_call}
-use Rattle.circuit_set.specs.Pumps.{of_circuits, Offers, Says, Turn, Turned}
-use Rattle.circuit_set.specs.Pumps as pumps
-use Rattle.circuit_set.specs.Sets as sets
-use Rattle.circuit_set.specs.Sets.{SetDone, CircuitTold, set_step}
+use Rattle.circuit_table.specs.Pumps.{of_circuits, Offers, Says, Turn, Turned}
+use Rattle.circuit_table.specs.Pumps as pumps
+use Rattle.circuit_table.specs.Sets as sets
+use Rattle.circuit_table.specs.Sets.{SetDone, CircuitTold, set_step}
 use Rattle.l3_datagram.specs.Datagrams.{Datagram, Parcel, head_at}
 use Rattle.l3_datagram.specs.Routers.{Way, Ends, ToNeighbour, forwarded_by, onward, way, way_of}
 use Rattle.l3_datagram.specs.Onward.{GoesOneHopOn}

@@ -10,11 +10,11 @@ use Rattle.circuit_l4.specs.Opening.{facts_of}
 use Rattle.circuit_l4.specs.State.{inbox}
 use Rattle.node_turns.specs.declared.user.User.{User}
 use Rattle.node_turns.specs.declared.user.User.TheVariants.{AtEnd, AtLink}
-use Rattle.circuit_set.specs.CircuitSets.{facts_at}
-use Rattle.circuit_set.specs.Pumps.{TellsLess, runs, ticks_of}
-use Rattle.circuit_set.specs.Sets as sets
-use Rattle.circuit_set.specs.Sets.{Act, Holder, SetDone, SetState, CircuitTold, set_step}
-use Rattle.circuit_set.specs.Standing.{take_answer}
+use Rattle.circuit_table.specs.CircuitSets.{facts_at}
+use Rattle.circuit_table.specs.Pumps.{TellsLess, runs, ticks_of}
+use Rattle.circuit_table.specs.Sets as sets
+use Rattle.circuit_table.specs.Sets.{Act, Holder, SetDone, SetState, CircuitTold, set_step}
+use Rattle.circuit_table.specs.Standing.{take_answer}
 use Rattle.digi_path.specs.Paths.{Action, For_me, Repeat, Not_yet, Heard}
 use Rattle.kiss_framing.specs.Stream as kiss
 use Rattle.link_table.specs.Laws.{CarriesWhatWasOffered}

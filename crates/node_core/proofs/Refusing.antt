@@ -3,8 +3,8 @@ use Rattle.std.proofs.Common.{◌≡◌, ◌<◌, ◌≤◌, ℕ, refl, arith, [
 use Rattle.std.specs.Prelude.{Bool, IsTrue, IsErrOf, nat_lt, Ok, Err}
 use Rattle.std.proofs.lemmas.Bool.Decides.{nat_tests}
 use Rattle.ax_address.specs.Callsign.{Callsign, same_call}
-use Rattle.circuit_set.specs.declared.refusal.ConnectRefusal.{ConnectRefusal}
-use Rattle.circuit_set.specs.declared.refusal.ConnectRefusal.TheVariants as connecting
+use Rattle.circuit_table.specs.declared.refusal.ConnectRefusal.{ConnectRefusal}
+use Rattle.circuit_table.specs.declared.refusal.ConnectRefusal.TheVariants as connecting
 use Rattle.route_table.specs.Held.{CanLock, TableRoutes, LockFault, StandsFor}
 use Rattle.route_table.specs.Log.{Item}
 use Rattle.route_table.specs.declared.refusal.LockRefusal.{LockRefusal}

@@ -2,7 +2,7 @@
 use Rattle.std.proofs.Common.{◌≡◌, ◌∙◌, ℕ, refl, ap, subst, arith, length, sym, List, [], ◌∷◌}
 use Rattle.std.specs.List.{AllByRecursion}
 use Rattle.std.specs.Prelude.{Bool, true, false, ◌||◌, if◌then◌else◌}
-use Rattle.circuit_set.specs.Pumps.{TellsLess}
+use Rattle.circuit_table.specs.Pumps.{TellsLess}
 use Rattle.link_table.specs.Kept.{OffersLeave, TakesLower}
 use Rattle.node_turns.specs.Links as links
 use Rattle.node_core.specs.Inputs.{after_input, turns_settle}

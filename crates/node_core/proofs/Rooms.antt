@@ -13,12 +13,12 @@ use Rattle.circuit_l4.specs.State as r
 use Rattle.circuit_l4.specs.Transports.{transport_octets}
 use Rattle.circuit_l4.specs.declared.notice.EndNotice.{EndNotice}
 use Rattle.circuit_l4.specs.declared.notice.EndNotice.TheVariants.{FailedOversize}
-use Rattle.circuit_set.specs.CircuitSets.{partner_at}
-use Rattle.circuit_set.specs.Pumps as pumps
-use Rattle.circuit_set.specs.Pumps.{Offers, Says, Turn, Waiting}
-use Rattle.circuit_set.specs.Sets as sets
-use Rattle.circuit_set.specs.Sets.{Holder, SetState, CircuitTold}
-use Rattle.circuit_set.specs.Standing as answers
+use Rattle.circuit_table.specs.CircuitSets.{partner_at}
+use Rattle.circuit_table.specs.Pumps as pumps
+use Rattle.circuit_table.specs.Pumps.{Offers, Says, Turn, Waiting}
+use Rattle.circuit_table.specs.Sets as sets
+use Rattle.circuit_table.specs.Sets.{Holder, SetState, CircuitTold}
+use Rattle.circuit_table.specs.Standing as answers
 use Rattle.l3_datagram.specs.Datagrams.{Datagram, head_at, octets_with}
 use Rattle.l3_datagram.specs.declared.carrier.Offered.{Offered}
 use Rattle.l3_datagram.specs.declared.datagram.DatagramHead.{DatagramHead}

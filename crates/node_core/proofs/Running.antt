@@ -6,11 +6,11 @@ use Rattle.ax_frame.specs.declared.head.Head.{Head}
 use Rattle.ax_frame.specs.declared.frame.FrameRefusal.{FrameRefusal}
 use Rattle.ax_frame.specs.Frames.{Frame, read_head_at, read_at}
 use Rattle.ax_link.specs.declared.notice.LinkNotice.{LinkNotice}
-use Rattle.circuit_set.specs.Pumps.{runs, Waiting, at_rest}
-use Rattle.circuit_set.specs.Sets as sets
-use Rattle.circuit_set.specs.Sets.{Act, SetState, CircuitTold}
-use Rattle.circuit_set.specs.Standing.{write_answer}
-use Rattle.circuit_set.specs.declared.refusal.SetRefusal.{SetRefusal}
+use Rattle.circuit_table.specs.Pumps.{runs, Waiting, at_rest}
+use Rattle.circuit_table.specs.Sets as sets
+use Rattle.circuit_table.specs.Sets.{Act, SetState, CircuitTold}
+use Rattle.circuit_table.specs.Standing.{write_answer}
+use Rattle.circuit_table.specs.declared.refusal.SetRefusal.{SetRefusal}
 use Rattle.digi_path.specs.Paths.{Action, For_me, Repeat, Not_yet, Heard}
 use Rattle.kiss_framing.specs.Stream as kiss
 use Rattle.link_table.specs.declared.written.Written.{Written}

@@ -15,7 +15,7 @@ use Rattle.ax_frame.specs.Frames.{Frame, read_at, read_head_at}
 use Rattle.ax_link.specs.Kinds.{payload_of}
 use Rattle.ax_link.specs.Bounds.{Has}
 use Rattle.ax_segment.specs.Joining.{Answer, HeldMessage, More, Whole, Short, Broken, join_step, whole_of}
-use Rattle.circuit_set.specs.Sets as sets
+use Rattle.circuit_table.specs.Sets as sets
 use Rattle.digi_path.specs.Paths.{Action, For_me, Repeat, Not_yet, Heard, action}
 use Rattle.kiss_framing.specs.Stream as kiss
 use Rattle.l3_datagram.specs.Datagrams.{Datagram}
@@ -33,11 +33,11 @@ use Rattle.link_table.specs.declared.text_refusal.TextRefusal.{TextRefusal}
 use Rattle.route_table.specs.Log as logs
 use Rattle.route_table.specs.Log.{Item}
 use Rattle.node_core.specs.declared.config.NodeConfig.{NodeConfig}
-use Rattle.circuit_set.specs.declared.refusal.ConnectRefusal.{ConnectRefusal}
-use Rattle.circuit_set.specs.declared.refusal.SetRefusal.{SetRefusal}
-use Rattle.circuit_set.specs.Pumps.{connect_answer}
-use Rattle.circuit_set.specs.Sets.{Act}
-use Rattle.circuit_set.specs.Standing.{write_answer}
+use Rattle.circuit_table.specs.declared.refusal.ConnectRefusal.{ConnectRefusal}
+use Rattle.circuit_table.specs.declared.refusal.SetRefusal.{SetRefusal}
+use Rattle.circuit_table.specs.Pumps.{connect_answer}
+use Rattle.circuit_table.specs.Sets.{Act}
+use Rattle.circuit_table.specs.Standing.{write_answer}
 use Rattle.nodes_broadcast.specs.declared.nodes.NodesRefusal.{NodesRefusal}
 use Rattle.nodes_broadcast.specs.Nodes.{Broadcast, nodes_at}
 use Rattle.node_core.specs.Acts as acts

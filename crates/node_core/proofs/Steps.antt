@@ -2,10 +2,10 @@
 use Rattle.std.proofs.Common.{◌≡◌, ◌∙◌, ℕ, zero, suc, refl, sym, ap, List, [], ◌∷◌, ◌++◌, slice_get}
 use Rattle.std.specs.Prelude.{slice_set, Option, Some}
 use Rattle.ax_address.specs.Callsign.{Callsign}
-use Rattle.circuit_set.specs.Events.{Event}
-use Rattle.circuit_set.specs.Pumps.{runs}
-use Rattle.circuit_set.specs.Runs.{events_at, events_of, sets_at, sets_run, told_at}
-use Rattle.circuit_set.specs.Sets.{SetState, CircuitTold, set_step}
+use Rattle.circuit_table.specs.Events.{Event}
+use Rattle.circuit_table.specs.Pumps.{runs}
+use Rattle.circuit_table.specs.Runs.{events_at, events_of, sets_at, sets_run, told_at}
+use Rattle.circuit_table.specs.Sets.{SetState, CircuitTold, set_step}
 use Rattle.node_core.specs.Runs.{InputsAreSteps, StepsOf, steps_at}
 use Rattle.node_core.proofs.Making.{own_stays}
 

@@ -8,9 +8,9 @@ use Rattle.std.proofs.lemmas.Bool.{ltb-false}
 use Rattle.std.proofs.lemmas.Cmp.{nat_list_eq_equiv}
 use Rattle.ax_address.specs.Callsign.{Callsign, same_call}
 use Rattle.ax_address.specs.Results.{◌>>=◌}
-use Rattle.circuit_set.specs.Events.{is_copy}
-use Rattle.circuit_set.specs.Sets as sets
-use Rattle.circuit_set.specs.Sets.{CircuitTold}
+use Rattle.circuit_table.specs.Events.{is_copy}
+use Rattle.circuit_table.specs.Sets as sets
+use Rattle.circuit_table.specs.Sets.{CircuitTold}
 use Rattle.l3_datagram.specs.Datagrams.{head_at}
 use Rattle.l3_datagram.specs.Onward.{IsOneHopOn}
 use Rattle.l3_datagram.specs.declared.datagram.DatagramHead.{DatagramHead}

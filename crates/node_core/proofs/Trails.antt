@@ -5,8 +5,8 @@ use Rattle.std.specs.List.{AllByRecursion}
 use Rattle.radio_base.specs.declared.payload.Payload.{Payload}
 use Rattle.ax_address.specs.Callsign.{Callsign}
 use Rattle.ax_link.specs.Bounds.{Has}
-use Rattle.circuit_set.specs.Pumps.{runs}
-use Rattle.circuit_set.specs.Sets.{Act, SetState, CircuitTold}
+use Rattle.circuit_table.specs.Pumps.{runs}
+use Rattle.circuit_table.specs.Sets.{Act, SetState, CircuitTold}
 use Rattle.link_table.specs.Frames.{netrom}
 use Rattle.link_table.specs.Laws.{Carries, CarriesByWeaker, FrameHolds, goes_to}
 use Rattle.link_table.specs.Reaching.{IsCall, Reaches}

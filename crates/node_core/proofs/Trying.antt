@@ -7,11 +7,11 @@ use Rattle.ax_address.specs.Callsign.{Callsign, same_call}
 use Rattle.radio_base.specs.declared.modulus.TheConstants.{COUNT_MAX}
 use Rattle.circuit_l4.specs.Opening.{requesting}
 use Rattle.circuit_l4.specs.State.{Effect}
-use Rattle.circuit_set.specs.Pumps.{connect_answer}
-use Rattle.circuit_set.specs.Sets as sets
-use Rattle.circuit_set.specs.Sets.{SetDone, SetState, set_step}
-use Rattle.circuit_set.specs.declared.refusal.ConnectRefusal.{ConnectRefusal}
-use Rattle.circuit_set.specs.declared.refusal.ConnectRefusal.TheVariants as connecting
+use Rattle.circuit_table.specs.Pumps.{connect_answer}
+use Rattle.circuit_table.specs.Sets as sets
+use Rattle.circuit_table.specs.Sets.{SetDone, SetState, set_step}
+use Rattle.circuit_table.specs.declared.refusal.ConnectRefusal.{ConnectRefusal}
+use Rattle.circuit_table.specs.declared.refusal.ConnectRefusal.TheVariants as connecting
 use Rattle.link_table.specs.Reaching.{IsCall}
 use Rattle.node_prompt.specs.Replies as texts
 use Rattle.node_turns.specs.declared.reply.Reply.{Reply}

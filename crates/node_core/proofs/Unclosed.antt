@@ -19,7 +19,7 @@ use Rattle.circuit_l4.specs.declared.owed.Owed.{Owed}
 use Rattle.circuit_l4.specs.declared.transport.Flags.{Flags}
 use Rattle.circuit_l4.specs.declared.transport.Transport.{Transport}
 use Rattle.circuit_l4.specs.declared.transport.Transport.TheVariants.{Request, Accept, Refuse, Disconnect, Disconnected, Info, InfoAck}
-use Rattle.circuit_set.specs.Sets.{has_ended}
+use Rattle.circuit_table.specs.Sets.{has_ended}
 
 abbrev pub IsMessage : List ℕ → Type 0
 IsMessage m = (1 ≤ length m) × (length m ≤ 8192)

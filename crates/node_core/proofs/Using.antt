@@ -2,13 +2,13 @@
 use Rattle.std.proofs.Common.{◌≡◌, ◌∙◌, ℕ, refl, sym, ap, subst, List, []}
 use Rattle.std.specs.Prelude.{Bool, true, false, OnOk, OnErr, is_some, unwrap_or, Option, Result, Ok, Err}
 use Rattle.ax_address.specs.Callsign.{Callsign}
-use Rattle.circuit_set.specs.CircuitSets as sets
-use Rattle.circuit_set.specs.CircuitSets.{Circuits, SetStands}
-use Rattle.circuit_set.specs.Pumps as inputs
-use Rattle.circuit_set.specs.Pumps.{Waiting, at_rest}
-use Rattle.circuit_set.specs.Sets as s
-use Rattle.circuit_set.specs.declared.refusal.SetRefusal.{SetRefusal}
-use Rattle.circuit_set.specs.Standing as answers
+use Rattle.circuit_table.specs.CircuitSets as sets
+use Rattle.circuit_table.specs.CircuitSets.{Circuits, SetStands}
+use Rattle.circuit_table.specs.Pumps as inputs
+use Rattle.circuit_table.specs.Pumps.{Waiting, at_rest}
+use Rattle.circuit_table.specs.Sets as s
+use Rattle.circuit_table.specs.declared.refusal.SetRefusal.{SetRefusal}
+use Rattle.circuit_table.specs.Standing as answers
 use Rattle.link_table.specs.Texts as texts
 use Rattle.link_table.specs.Standing.{TableView as Kept, TableGoes, TableStands, TextNotNoMemory, text_given}
 use Rattle.link_table.specs.Table.{Table}

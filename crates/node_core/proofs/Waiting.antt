@@ -5,8 +5,8 @@ use Rattle.std.specs.Prelude.{Bool, true, false, not, ◌||◌, ◌&&◌, filter
 use Rattle.std.specs.Cmp.Lexicographic.{pointwise}
 use Rattle.std.proofs.lemmas.Bool.Decides.{nat_tests}
 use Rattle.ax_address.specs.Callsign.{Callsign, same_call}
-use Rattle.circuit_set.specs.CircuitSets.{partner_at}
-use Rattle.circuit_set.specs.Pumps.{TellsLess}
+use Rattle.circuit_table.specs.CircuitSets.{partner_at}
+use Rattle.circuit_table.specs.Pumps.{TellsLess}
 use Rattle.link_table.specs.Kept.{OffersLeave, TakesLower}
 use Rattle.node_turns.specs.declared.circuit.Circuit.{Circuit}
 use Rattle.node_turns.specs.declared.reply.Reply.{Reply}

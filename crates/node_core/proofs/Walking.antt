@@ -5,12 +5,12 @@ use Rattle.arrayvec.specs.ArrayVec.{ArrayVec}
 use Rattle.ax_address.specs.declared.address.Address.{Address}
 use Rattle.link_table.specs.Reaching.{IsWay}
 use Rattle.ax_address.specs.Callsign.{Callsign, IsCallsign, same_call, ReadsCallTexts}
-use Rattle.circuit_set.specs.declared.refusal.ConnectRefusal.{ConnectRefusal}
-use Rattle.circuit_set.specs.declared.refusal.SetRefusal.{SetRefusal}
-use Rattle.circuit_set.specs.Pumps.{connect_answer}
-use Rattle.circuit_set.specs.Sets as sets
-use Rattle.circuit_set.specs.Sets.{Act}
-use Rattle.circuit_set.specs.Standing.{write_answer}
+use Rattle.circuit_table.specs.declared.refusal.ConnectRefusal.{ConnectRefusal}
+use Rattle.circuit_table.specs.declared.refusal.SetRefusal.{SetRefusal}
+use Rattle.circuit_table.specs.Pumps.{connect_answer}
+use Rattle.circuit_table.specs.Sets as sets
+use Rattle.circuit_table.specs.Sets.{Act}
+use Rattle.circuit_table.specs.Standing.{write_answer}
 use Rattle.link_table.specs.declared.open_refusal.OpenRefusal.{OpenRefusal}
 use Rattle.link_table.specs.declared.text_refusal.TextRefusal.{TextRefusal}
 use Rattle.route_table.specs.Log as logs

@@ -3,10 +3,10 @@ use Rattle.std.proofs.Common.{◌≡◌, ◌≤◌, ◌<◌, ◌+◌, ◌*◌, �
 use Rattle.std.specs.Prelude.{false, not, ◌&&◌, ◌||◌, nat_eq, nat_lt, max, if◌then◌else◌}
 use Rattle.std.proofs.lemmas.Bool.Decides.{nat_tests}
 use Rattle.ax_address.specs.Callsign.{Callsign}
-use Rattle.circuit_set.specs.Sets as sets
-use Rattle.circuit_set.specs.Sets.{CircuitTold, has_ended}
-use Rattle.circuit_set.specs.Standing.{EachStands, Here, Keeps, Past}
-use Rattle.circuit_set.specs.declared.holder.Holder.{Holder}
+use Rattle.circuit_table.specs.Sets as sets
+use Rattle.circuit_table.specs.Sets.{CircuitTold, has_ended}
+use Rattle.circuit_table.specs.Standing.{EachStands, Here, Keeps, Past}
+use Rattle.circuit_table.specs.declared.holder.Holder.{Holder}
 use Rattle.link_table.specs.Kept.{CountsPayloads, kept_payloads}
 use Rattle.node_core.specs.declared.station.Station.{Station}
 use Rattle.node_turns.specs.Links as links

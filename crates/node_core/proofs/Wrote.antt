@@ -12,10 +12,10 @@ use Rattle.circuit_l4.specs.declared.notice.EndNotice.{EndNotice}
 use Rattle.circuit_l4.specs.declared.notice.EndNotice.TheVariants as notice
 use Rattle.circuit_l4.specs.declared.pair.Pair.{Pair}
 use Rattle.circuit_l4.specs.declared.transport.Transport.{Transport}
-use Rattle.circuit_set.specs.Sets as s
-use Rattle.circuit_set.specs.Sets.{Call, Calls, Comes, ConnectFor, Holder, SetState, CircuitTold, Closes, Takes, Ticks, Writes}
-use Rattle.circuit_set.specs.Standing as answers
-use Rattle.circuit_set.specs.declared.refusal.SetRefusal.TheVariants as set_refusal
+use Rattle.circuit_table.specs.Sets as s
+use Rattle.circuit_table.specs.Sets.{Call, Calls, Comes, ConnectFor, Holder, SetState, CircuitTold, Closes, Takes, Ticks, Writes}
+use Rattle.circuit_table.specs.Standing as answers
+use Rattle.circuit_table.specs.declared.refusal.SetRefusal.TheVariants as set_refusal
 use Rattle.circuit_l4.specs.Opening.{requesting}
 use Rattle.circuit_l4.specs.declared.refusal.WriteRefusal.{WriteRefusal}
 use Rattle.radio_base.specs.declared.modulus.TheConstants.{COUNT_MAX}

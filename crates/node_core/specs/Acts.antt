@@ -4,14 +4,14 @@ use Rattle.arrayvec.specs.ArrayVec.{ArrayVec}
 use Rattle.ax_address.specs.declared.address.Address.{Address}
 use Rattle.ax_address.specs.Callsign.{Callsign, same_call}
 use Rattle.ax_address.specs.declared.alias.Alias.{Alias}
-use Rattle.circuit_set.specs.declared.refusal.ConnectRefusal.{ConnectRefusal}
-use Rattle.circuit_set.specs.declared.refusal.NoEnd.{NoEnd}
-use Rattle.circuit_set.specs.declared.refusal.SetRefusal.{SetRefusal}
-use Rattle.circuit_set.specs.Pumps.{connect_answer}
-use Rattle.circuit_set.specs.Sets as sets
-use Rattle.circuit_set.specs.Standing.{close_answer, message_at, take_answer, write_answer}
-use Rattle.circuit_set.specs.declared.refusal.ConnectRefusal.TheVariants as connecting
-use Rattle.circuit_set.specs.declared.refusal.SetRefusal.TheVariants as set_refusal
+use Rattle.circuit_table.specs.declared.refusal.ConnectRefusal.{ConnectRefusal}
+use Rattle.circuit_table.specs.declared.refusal.NoEnd.{NoEnd}
+use Rattle.circuit_table.specs.declared.refusal.SetRefusal.{SetRefusal}
+use Rattle.circuit_table.specs.Pumps.{connect_answer}
+use Rattle.circuit_table.specs.Sets as sets
+use Rattle.circuit_table.specs.Standing.{close_answer, message_at, take_answer, write_answer}
+use Rattle.circuit_table.specs.declared.refusal.ConnectRefusal.TheVariants as connecting
+use Rattle.circuit_table.specs.declared.refusal.SetRefusal.TheVariants as set_refusal
 use Rattle.link_table.specs.declared.open_refusal.OpenRefusal.{OpenRefusal}
 use Rattle.link_table.specs.declared.open_refusal.OpenRefusal.TheVariants as opening
 use Rattle.link_table.specs.declared.text_refusal.TextRefusal.{TextRefusal}

@@ -3,7 +3,7 @@
 -- out, too: the lengths of the messages in a ring, numbers, times and calls, which are of one size for each link, end and session; and
 -- the qualities of single neighbours.
 use Rattle.std.specs.Prelude.{ℕ, ◌+◌, ◌*◌, ◌≤◌, length}
-use Rattle.circuit_set.specs.Kept as ends
+use Rattle.circuit_table.specs.Kept as ends
 use Rattle.kiss_framing.specs.Stream as kiss
 use Rattle.link_table.specs.Kept as links
 use Rattle.node_core.specs.Standing.{Kept}

@@ -5,8 +5,8 @@ use Rattle.ax_address.specs.Callsign.{Callsign}
 use Rattle.ax_address.specs.declared.address.Address.{Address}
 use Rattle.arrayvec.specs.ArrayVec.{ArrayVec}
 use Rattle.circuit_l4.specs.State.{inbox}
-use Rattle.circuit_set.specs.CircuitSets.{held_ids}
-use Rattle.circuit_set.specs.Sets.{Holder}
+use Rattle.circuit_table.specs.CircuitSets.{held_ids}
+use Rattle.circuit_table.specs.Sets.{Holder}
 use Rattle.link_table.specs.Calls.{with_path}
 use Rattle.link_table.specs.Reaching.{IsCall}
 use Rattle.node_core.specs.declared.config.NodeConfig.{NodeConfig}

@@ -7,9 +7,9 @@ use Rattle.ax_address.specs.Callsign.{Callsign, same_call}
 use Rattle.ax_frame.specs.declared.frame.FrameRefusal.{FrameRefusal}
 use Rattle.ax_frame.specs.Frames.{Frame, read_at}
 use Rattle.ax_link.specs.Bounds.{Has}
-use Rattle.circuit_set.specs.Events.{is_copy}
-use Rattle.circuit_set.specs.Pumps.{runs}
-use Rattle.circuit_set.specs.Sets.{Act, Comes, Sent, CircuitTold}
+use Rattle.circuit_table.specs.Events.{is_copy}
+use Rattle.circuit_table.specs.Pumps.{runs}
+use Rattle.circuit_table.specs.Sets.{Act, Comes, Sent, CircuitTold}
 use Rattle.kiss_framing.specs.Stream as kiss
 use Rattle.link_table.specs.Frames as frames
 use Rattle.link_table.specs.Frames.{netrom, octets_of}

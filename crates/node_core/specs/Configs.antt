@@ -2,9 +2,9 @@
 use Rattle.std.specs.Prelude.{◌≤◌, ◌+◌, Bool, true, false, [], None}
 use Rattle.ax_link.specs.State.{count_end}
 use Rattle.circuit_l4.specs.Opening as ends
-use Rattle.circuit_set.specs.Pairs.{IsPair}
-use Rattle.circuit_set.specs.Pumps.{at_rest}
-use Rattle.circuit_set.specs.Sets as sets
+use Rattle.circuit_table.specs.Pairs.{IsPair}
+use Rattle.circuit_table.specs.Pumps.{at_rest}
+use Rattle.circuit_table.specs.Sets as sets
 use Rattle.link_table.specs.Calls.{no_links}
 use Rattle.link_table.specs.Standing.{width}
 use Rattle.radio_base.specs.declared.modulus.TheConstants.{COUNT_MAX}

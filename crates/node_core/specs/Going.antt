@@ -1,6 +1,6 @@
 -- How a node's code goes on with the states that it stands for: words for the clauses of its own functions, which no public clause cites.
 use Rattle.std.specs.Prelude.{ℕ, ◌≡◌, Bool, true, false, slice_get, Result, Ok, Err}
-use Rattle.circuit_set.specs.CircuitSets.{Circuits, SetStands}
+use Rattle.circuit_table.specs.CircuitSets.{Circuits, SetStands}
 use Rattle.kiss_framing.specs.Stream.{Item, Frame, Too_long}
 use Rattle.kiss_framing.specs.declared.item.KissItem.{KissItem}
 use Rattle.kiss_framing.specs.declared.item.KissItem.TheVariants as kiss

@@ -3,10 +3,10 @@ use Rattle.std.specs.Prelude.{ℕ, ◌≡◌, ◌+◌, false, List, [], ◌∷�
 use Rattle.std.specs.List.{AllByRecursion}
 use Rattle.ax_address.specs.Callsign.{IsCallsign}
 use Rattle.link_table.specs.Reaching.{IsWay}
-use Rattle.circuit_set.specs.Givings.{IsUp}
-use Rattle.circuit_set.specs.Pumps.{of_circuits, runs, at_rest}
-use Rattle.circuit_set.specs.Runs.{IsAct, Step, events_at, events_of, sets_run}
-use Rattle.circuit_set.specs.Sets.{Act, Calls, Writes, SetState, CircuitTold, Made}
+use Rattle.circuit_table.specs.Givings.{IsUp}
+use Rattle.circuit_table.specs.Pumps.{of_circuits, runs, at_rest}
+use Rattle.circuit_table.specs.Runs.{IsAct, Step, events_at, events_of, sets_run}
+use Rattle.circuit_table.specs.Sets.{Act, Calls, Writes, SetState, CircuitTold, Made}
 use Rattle.node_core.specs.declared.acts.ActDone.{ActDone}
 use Rattle.node_core.specs.declared.acts.ActRefusal.{ActRefusal}
 use Rattle.node_core.specs.Inputs.{act_answer, after_act, after_bytes, after_tick, moment}

@@ -1,10 +1,10 @@
 -- What a node's code keeps, and for which states it stands.
 use Rattle.std.specs.Prelude.{◌≡◌, ◌≤◌, map, Result, Ok, Err, ℕ, ◌+◌, Bool, false, length}
 use Rattle.ax_link.specs.State.{count_end}
-use Rattle.circuit_set.specs.CircuitSets as sets
-use Rattle.circuit_set.specs.CircuitSets.{Circuits, SetStands}
-use Rattle.circuit_set.specs.Pumps.{at_rest}
-use Rattle.circuit_set.specs.Standing.{event_told}
+use Rattle.circuit_table.specs.CircuitSets as sets
+use Rattle.circuit_table.specs.CircuitSets.{Circuits, SetStands}
+use Rattle.circuit_table.specs.Pumps.{at_rest}
+use Rattle.circuit_table.specs.Standing.{event_told}
 use Rattle.link_table.specs.Standing.{TableView, TableStands, TableView as LinkTable}
 use Rattle.route_table.specs.Held.{StandsFor}
 use Rattle.node_turns.specs.Sessions.{bare}

@@ -1,6 +1,6 @@
 -- What waits after an input: only what the side that it goes to has no room for. Own profile.
 use Rattle.std.specs.Prelude.{ℕ, ◌≡◌, ◌<◌, Bool, true, false, not, ◌&&◌, ◌||◌, nat_lt, length, Some}
-use Rattle.circuit_set.specs.Standing as answers
+use Rattle.circuit_table.specs.Standing as answers
 use Rattle.node_turns.specs.declared.circuit.Circuit.{Circuit}
 use Rattle.node_turns.specs.declared.stage.Stage.TheVariants.{AtPrompt, Connected}
 use Rattle.node_turns.specs.declared.user.User.{User}

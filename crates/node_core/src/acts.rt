@@ -5,7 +5,7 @@ ghost use Rattle.node_core.specs.Going as going;
 use crate::taken_message::TakenMessage;
 use ax_address::{Alias, Call, Path};
 use circuit_l4::WriteRefusal;
-use circuit_set::{ConnectRefusal, NoEnd, SetRefusal};
+use circuit_table::{ConnectRefusal, NoEnd, SetRefusal};
 use link_table::{OpenRefusal, TextRefusal};
 use radio_base::NoMemory;
 use route_table::LockRefusal;

@@ -1,7 +1,7 @@
 //! What a node tells.
 use ax_address::Call;
 use ax_link::LinkNotice;
-use circuit_set::SetEvent;
+use circuit_table::SetEvent;
 
 /// What a node tells of what has happened to it.
 #[derive(Debug, Drop, PartialEq, Eq)]

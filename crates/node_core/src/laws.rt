@@ -1,5 +1,5 @@
 //! What the definitions promise by themselves.
-ghost use Rattle.circuit_set.specs.Pumps.{TellsLess};
+ghost use Rattle.circuit_table.specs.Pumps.{TellsLess};
 ghost use Rattle.link_table.specs.Kept.{CountsPayloads, OffersLeave, TakesLower};
 ghost use Rattle.node_core.specs.Sound.{KeepsItsShare};
 ghost use Rattle.node_core.specs.Bridged.{SessionsBounded, SessionsBridged, SessionsClosedLast, SessionsReadTheirEnds, SessionsWriteTheirEnds, UsersAreFew};
@@ -98,7 +98,7 @@ pub fn kept()
     ensures { KeepsItsShare }
 {
     link_table::laws::kept();
-    circuit_set::laws::kept();
+    circuit_table::laws::kept();
     users_are_few();
 }
 
@@ -122,5 +122,5 @@ pub(crate) fn parts()
     ensures less { TellsLess }
 {
     link_table::laws::payloads();
-    circuit_set::laws::telling_ends();
+    circuit_table::laws::telling_ends();
 }

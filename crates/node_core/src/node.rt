@@ -22,7 +22,7 @@ use crate::station::Station;
 use crate::{ActDone, ActRefusal, NodeConfig, NodeEntry, QualityRefusal, UserAct, laws};
 use ax_address::{Address, Call, Path};
 use circuit_l4::EndFacts;
-use circuit_set::CircuitSet;
+use circuit_table::CircuitSet;
 use kiss_framing::Deframer;
 use link_table::{LinkTable, PathRefusal, Written};
 use radio_base::{COUNT_MAX, Moment, NoMemory};
@@ -67,7 +67,7 @@ impl Model for Node {
     ghost use Rattle.std.specs.Prelude.{◌≡◌, false};
     ghost use Rattle.std.specs.Coded.{codes};
     ghost use Rattle.indexmap.specs.Layout.{hash_map_code};
-    ghost use Rattle.circuit_set.specs.contracts.held_ends.HeldEnds.{the_row as held_row};
+    ghost use Rattle.circuit_table.specs.contracts.held_ends.HeldEnds.{the_row as held_row};
     ghost use Rattle.node_core.specs.Standing.{Kept, view_of};
     ghost use Rattle.node_core.specs.Sound.{IsSound};
 
@@ -81,9 +81,9 @@ impl Model for Node {
 }
 
 impl Node {
-    ghost use Rattle.circuit_set.specs.CircuitSets.{SetStands, facts_at};
-    ghost use Rattle.circuit_set.specs.Pumps.{at_rest};
-    ghost use Rattle.circuit_set.specs.Sets as sets;
+    ghost use Rattle.circuit_table.specs.CircuitSets.{SetStands, facts_at};
+    ghost use Rattle.circuit_table.specs.Pumps.{at_rest};
+    ghost use Rattle.circuit_table.specs.Sets as sets;
     ghost use Rattle.node_core.specs.Standing.{IsAnswer, entry_of, NodeGoes, NodeStands, circuits_of, entries_left, frames_left, links_of};
     ghost use Rattle.node_core.specs.Acts.{act_of};
     ghost use Rattle.node_core.specs.declared.acts.ActRefusal.TheVariants as refusals;

@@ -12,7 +12,7 @@ use crate::path_qualities::PathQualities;
 use crate::sessions::Session;
 use crate::{NodeConfig, NodeEntry, QualityRefusal};
 use ax_address::{Alias, Call};
-use circuit_set::CircuitSet;
+use circuit_table::CircuitSet;
 use l3_datagram::Router;
 use link_table::{LinkTable, Written};
 use radio_base::NoMemory;

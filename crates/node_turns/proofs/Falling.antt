@@ -2,9 +2,9 @@
 use Rattle.std.proofs.Common.{◌≡◌, ◌≤◌, ◌<◌, ◌+◌, ◌∙◌, ◌⊎◌, inl, inr, ℕ, zero, suc, refl, sym, ap, subst, arith, length, List, [], ◌∷◌}
 use Rattle.std.specs.Prelude.{Bool, true, false, not, ◌||◌, nat_eq, filter, if◌then◌else◌, Option, Some, None, Result, Ok, Err}
 use Rattle.ax_address.specs.Callsign.{Callsign}
-use Rattle.circuit_set.specs.declared.refusal.ConnectRefusal.{ConnectRefusal}
-use Rattle.circuit_set.specs.Pumps.{TellsLess, connect_answer}
-use Rattle.circuit_set.specs.Sets as sets
+use Rattle.circuit_table.specs.declared.refusal.ConnectRefusal.{ConnectRefusal}
+use Rattle.circuit_table.specs.Pumps.{TellsLess, connect_answer}
+use Rattle.circuit_table.specs.Sets as sets
 use Rattle.link_table.specs.Kept.{OffersLeave, TakesLower}
 use Rattle.node_prompt.specs.declared.action.Action.{Action}
 use Rattle.node_prompt.specs.declared.action.Action.TheVariants as action

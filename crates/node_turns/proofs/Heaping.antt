@@ -12,9 +12,9 @@ use Rattle.circuit_l4.specs.declared.pair.Pair.{Pair}
 use Rattle.circuit_l4.specs.declared.transport.Transport.{Transport}
 use Rattle.circuit_l4.specs.declared.transport.Transport.TheVariants.{Request, Accept, Refuse, Disconnect, Disconnected, Info, InfoAck}
 use Rattle.circuit_l4.specs.declared.transport.TransportRefusal.{TransportRefusal}
-use Rattle.circuit_set.specs.Sets.{heeds, Holder, SetDone, SetState, CircuitTold}
-use Rattle.circuit_set.specs.Sets as s
-use Rattle.circuit_set.specs.Standing.{take_answer}
+use Rattle.circuit_table.specs.Sets.{heeds, Holder, SetDone, SetState, CircuitTold}
+use Rattle.circuit_table.specs.Sets as s
+use Rattle.circuit_table.specs.Standing.{take_answer}
 use Rattle.l3_datagram.specs.declared.datagram.DatagramHead.{DatagramHead}
 use Rattle.l3_datagram.specs.declared.datagram.DatagramRefusal.{DatagramRefusal}
 use Rattle.l3_datagram.specs.declared.datagram.TheConstants.{HEAD_SIZE}

@@ -2,7 +2,7 @@
 use Rattle.std.proofs.Common.{◌≡◌, ◌<◌, ℕ, refl}
 use Rattle.std.specs.Prelude.{true, false}
 use Rattle.ax_address.specs.Callsign.{Callsign}
-use Rattle.circuit_set.specs.Pumps.{TellsLess}
+use Rattle.circuit_table.specs.Pumps.{TellsLess}
 use Rattle.l3_datagram.specs.Datagrams.{Datagram}
 use Rattle.link_table.specs.Calls.{collect, tell_lost}
 use Rattle.link_table.specs.Kept.{OffersLeave, TakesLower}

@@ -3,7 +3,7 @@ use Rattle.std.proofs.Common.{◌≡◌, ◌≤◌, ◌<◌, ◌-◌, ◌∙◌,
 use Rattle.std.specs.Prelude.{Bool, true, false, nat_lt, not, ◌&&◌, ◌||◌, if◌then◌else◌}
 use Rattle.std.proofs.lemmas.Bool.Decides.{nat_tests}
 use Rattle.ax_address.specs.Callsign.{Callsign}
-use Rattle.circuit_set.specs.Pumps.{TellsLess, Offers, Says, Turn}
+use Rattle.circuit_table.specs.Pumps.{TellsLess, Offers, Says, Turn}
 use Rattle.l3_datagram.specs.Datagrams.{Parcel}
 use Rattle.link_table.specs.Calls.{collect, tell_lost}
 use Rattle.link_table.specs.Kept.{OffersLeave, TakesLower}

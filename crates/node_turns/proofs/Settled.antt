@@ -2,7 +2,7 @@
 use Rattle.std.proofs.Common.{◌≡◌, ◌≤◌, ◌<◌, ◌∙◌, ℕ, zero, suc, refl, ap, arith, length, sym, slice_get, List, [], ◌∷◌}
 use Rattle.std.specs.Prelude.{Bool, true, false, not, filter, None, if◌then◌else◌}
 use Rattle.ax_address.specs.Callsign.{Callsign}
-use Rattle.circuit_set.specs.Pumps.{TellsLess}
+use Rattle.circuit_table.specs.Pumps.{TellsLess}
 use Rattle.link_table.specs.Kept.{OffersLeave, TakesLower}
 use Rattle.node_turns.specs.Links as links
 use Rattle.node_turns.specs.Pumping as p
@@ -10,7 +10,7 @@ use Rattle.node_turns.specs.Serving as serving
 use Rattle.node_turns.specs.Sessions.{Session}
 use Rattle.node_turns.specs.States.{State, at_sessions}
 use Rattle.node_turns.specs.Turns.{Settled, Turn, idle}
-use Rattle.circuit_set.proofs.ByInputs.{tells_less}
+use Rattle.circuit_table.proofs.ByInputs.{tells_less}
 use Rattle.link_table.proofs.Payloads.{offers_leave, takes_lower}
 use Rattle.node_turns.proofs.Falling.{ServesAll, sessions_served}
 use Rattle.node_turns.proofs.Parts.{noticed_payloads, untaken}

@@ -2,7 +2,7 @@
 -- they come to doesn't hang on these weights.
 use Rattle.std.specs.Prelude.{ℕ, ◌+◌, ◌*◌, max, Bool, true, false, not, ◌&&◌, ◌||◌, nat_eq, nat_lt, if◌then◌else◌, suc, Option, Some, None, List, [], ◌∷◌, length}
 use Rattle.circuit_l4.specs.State.{inbox}
-use Rattle.circuit_set.specs.Sets.{Holder}
+use Rattle.circuit_table.specs.Sets.{Holder}
 use Rattle.circuit_l4.specs.declared.piece.Piece.{Piece}
 use Rattle.node_turns.specs.declared.circuit.Circuit.{Circuit}
 use Rattle.node_turns.specs.declared.stage.Stage.{Stage}

@@ -5,10 +5,10 @@ use Rattle.ax_address.specs.Callsign.{Callsign}
 use Rattle.ax_link.specs.declared.notice.LinkNotice.{LinkNotice}
 use Rattle.circuit_l4.specs.declared.notice.EndNotice.{EndNotice}
 use Rattle.circuit_l4.specs.declared.notice.EndNotice.TheVariants as end
-use Rattle.circuit_set.specs.Pumps.{OfEach, TellsLess, Of, Offers, Says, SetTold, Turn, Turned, Waiting}
-use Rattle.circuit_set.specs.Pumps as pumps
-use Rattle.circuit_set.specs.Sets as sets
-use Rattle.circuit_set.specs.Sets.{SetState}
+use Rattle.circuit_table.specs.Pumps.{OfEach, TellsLess, Of, Offers, Says, SetTold, Turn, Turned, Waiting}
+use Rattle.circuit_table.specs.Pumps as pumps
+use Rattle.circuit_table.specs.Sets as sets
+use Rattle.circuit_table.specs.Sets.{SetState}
 use Rattle.l3_datagram.specs.Datagrams.{Parcel, head_at}
 use Rattle.l3_datagram.specs.Routers.{Way, Ends, ToNeighbour, forwarded_by, way}
 use Rattle.l3_datagram.specs.declared.carrier.Offered.{Offered}

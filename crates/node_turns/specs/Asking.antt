@@ -2,12 +2,12 @@
 use Rattle.std.specs.Prelude.{ℕ, Bool, true, false, ◌==◌, if◌then◌else◌, List, [], ◌∷◌, Option, Some, None, Result, Ok, Err, ◌-◌, length, take, filter, flat_map}
 use Rattle.std.specs.Option.{option_to_list}
 use Rattle.ax_address.specs.Callsign.{Callsign, same_call}
-use Rattle.circuit_set.specs.declared.refusal.ConnectRefusal.{ConnectRefusal}
-use Rattle.circuit_set.specs.declared.refusal.ConnectRefusal.TheVariants as refusal
-use Rattle.circuit_set.specs.Pumps.{connect_answer}
-use Rattle.circuit_set.specs.Sets as sets
-use Rattle.circuit_set.specs.CircuitSets.{held_ids, partner_at}
-use Rattle.circuit_set.specs.Sets.{Holder, end_of}
+use Rattle.circuit_table.specs.declared.refusal.ConnectRefusal.{ConnectRefusal}
+use Rattle.circuit_table.specs.declared.refusal.ConnectRefusal.TheVariants as refusal
+use Rattle.circuit_table.specs.Pumps.{connect_answer}
+use Rattle.circuit_table.specs.Sets as sets
+use Rattle.circuit_table.specs.CircuitSets.{held_ids, partner_at}
+use Rattle.circuit_table.specs.Sets.{Holder, end_of}
 use Rattle.node_prompt.specs.Replies as texts
 use Rattle.node_prompt.specs.declared.action.Action.{Action}
 use Rattle.node_prompt.specs.declared.action.Action.TheVariants.{Say, Show, Connect, Bye, Nothing}

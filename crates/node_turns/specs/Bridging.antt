@@ -1,7 +1,7 @@
 -- What goes between a user and its circuit: replies and messages to the user, texts to the circuit. Own profile.
 use Rattle.std.specs.Prelude.{ℕ, Bool, true, false, not, ◌&&◌, nat_lt, if◌then◌else◌, List, [], ◌∷◌, ◌++◌, length, drop, slice_get, Option, Some, None}
-use Rattle.circuit_set.specs.Sets as sets
-use Rattle.circuit_set.specs.Standing as answers
+use Rattle.circuit_table.specs.Sets as sets
+use Rattle.circuit_table.specs.Standing as answers
 use Rattle.node_prompt.specs.Replies.{Prompt}
 use Rattle.node_prompt.specs.Replies as texts
 use Rattle.node_turns.specs.declared.circuit.Circuit.{Circuit}

@@ -15,9 +15,9 @@ use Rattle.link_table.specs.Table.{Table}
 use Rattle.link_table.specs.declared.open_refusal.OpenRefusal.{OpenRefusal}
 use Rattle.link_table.specs.declared.text_refusal.TextRefusal.{TextRefusal}
 use Rattle.link_table.specs.declared.written.Written.{Written}
-use Rattle.circuit_set.specs.Pumps as pumps
-use Rattle.circuit_set.specs.Pumps.{Turn, Turned, Waiting}
-use Rattle.circuit_set.specs.Sets.{Act}
+use Rattle.circuit_table.specs.Pumps as pumps
+use Rattle.circuit_table.specs.Pumps.{Turn, Turned, Waiting}
+use Rattle.circuit_table.specs.Sets.{Act}
 
 -- The links of a node, as the machine of `link_table` has them.
 

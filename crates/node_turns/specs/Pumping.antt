@@ -1,8 +1,8 @@
 -- The circuits are pumped until they have nothing to tell and nothing waits at the router. Own profile.
 use Rattle.std.specs.Prelude.{ℕ, zero, suc, ◌+◌, nat_lt, if◌then◌else◌, List, [], ◌∷◌, ◌++◌, length, Option, Some, None, is_some}
 use Rattle.ax_address.specs.Callsign.{Callsign}
-use Rattle.circuit_set.specs.Pumps.{SetTold, Turn, Turned, Says, Offers}
-use Rattle.circuit_set.specs.Sets.{CircuitTold}
+use Rattle.circuit_table.specs.Pumps.{SetTold, Turn, Turned, Says, Offers}
+use Rattle.circuit_table.specs.Sets.{CircuitTold}
 use Rattle.l3_datagram.specs.Datagrams.{Parcel}
 use Rattle.link_table.specs.Calls.{collect, tell_lost}
 use Rattle.node_turns.specs.Links as circuits

@@ -5,8 +5,8 @@ use Rattle.ax_link.specs.declared.notice.LinkNotice.{LinkNotice}
 use Rattle.ax_link.specs.declared.notice.LinkNotice.TheVariants as link
 use Rattle.circuit_l4.specs.declared.notice.EndNotice.{EndNotice}
 use Rattle.circuit_l4.specs.declared.notice.EndNotice.TheVariants as end
-use Rattle.circuit_set.specs.Pumps.{SetTold, Of}
-use Rattle.circuit_set.specs.Sets.{Gone, Made, Notice}
+use Rattle.circuit_table.specs.Pumps.{SetTold, Of}
+use Rattle.circuit_table.specs.Sets.{Gone, Made, Notice}
 use Rattle.node_prompt.specs.declared.trouble.Trouble.TheVariants.{Busy, Failure}
 use Rattle.node_turns.specs.declared.circuit.Circuit.{Circuit}
 use Rattle.node_turns.specs.declared.reply.Reply.{Reply}

@@ -3,7 +3,7 @@ use Rattle.std.specs.Prelude.{ℕ, Bool, List, [], ◌∷◌, ◌++◌, drop, Op
 use Rattle.ax_address.specs.Callsign.{Callsign}
 use Rattle.ax_address.specs.declared.alias.Alias.{Alias}
 use Rattle.ax_link.specs.declared.notice.LinkNotice.{LinkNotice}
-use Rattle.circuit_set.specs.Pumps.{SetTold, Waiting}
+use Rattle.circuit_table.specs.Pumps.{SetTold, Waiting}
 use Rattle.link_table.specs.Calls as calls
 use Rattle.link_table.specs.Table.{Table}
 use Rattle.link_table.specs.declared.written.Written.{Written}

@@ -5,12 +5,12 @@ use Rattle.ax_address.specs.Callsign.{Callsign, same_call}
 use Rattle.circuit_l4.specs.declared.facts.EndFacts.{EndFacts}
 use Rattle.circuit_l4.specs.declared.refusal.WriteRefusal.TheVariants.{Exhausted}
 use Rattle.circuit_l4.specs.State.{is_up}
-use Rattle.circuit_set.specs.CircuitSets.{facts_at, partner_at}
-use Rattle.circuit_set.specs.Sets as sets
-use Rattle.circuit_set.specs.Standing as answers
-use Rattle.circuit_set.specs.declared.refusal.NoEnd.{NoEnd}
-use Rattle.circuit_set.specs.declared.refusal.SetRefusal.{SetRefusal}
-use Rattle.circuit_set.specs.declared.refusal.SetRefusal.TheVariants as set_refusal
+use Rattle.circuit_table.specs.CircuitSets.{facts_at, partner_at}
+use Rattle.circuit_table.specs.Sets as sets
+use Rattle.circuit_table.specs.Standing as answers
+use Rattle.circuit_table.specs.declared.refusal.NoEnd.{NoEnd}
+use Rattle.circuit_table.specs.declared.refusal.SetRefusal.{SetRefusal}
+use Rattle.circuit_table.specs.declared.refusal.SetRefusal.TheVariants as set_refusal
 use Rattle.link_table.specs.declared.text_refusal.TextRefusal.{TextRefusal}
 use Rattle.node_turns.specs.declared.user.User.{User}
 use Rattle.node_turns.specs.declared.user.User.TheVariants.{AtEnd, AtLink}

@@ -2,8 +2,8 @@
 use Rattle.std.proofs.Common.{◌≡◌, ◌<◌, ◌++◌, [], ◌∙◌, ℕ, suc, Bool, List, ap, sym, subst, append_assoc, length, map, drop, get_or, drop-cons}
 use Rattle.std.specs.Prelude.{Option}
 use Rattle.circuit_l4.specs.declared.facts.EndFacts.{EndFacts}
-use Rattle.circuit_set.specs.CircuitSets.{facts_at}
-use Rattle.circuit_set.specs.Sets.{Holder, end_of}
+use Rattle.circuit_table.specs.CircuitSets.{facts_at}
+use Rattle.circuit_table.specs.Sets.{Holder, end_of}
 use Rattle.circuit_verdict.specs.declared.late.Late.{Late}
 use Rattle.network_file.specs.Plan.{Plan}
 use Rattle.net_replay.specs.declared.air.Aired.{Aired}

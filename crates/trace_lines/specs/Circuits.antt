@@ -7,9 +7,9 @@ use Rattle.circuit_l4.specs.declared.facts.EndFacts.{EndFacts}
 use Rattle.circuit_l4.specs.declared.notice.EndNotice.{EndNotice}
 use Rattle.circuit_l4.specs.declared.notice.EndNotice.TheVariants.{Opened}
 use Rattle.circuit_l4.specs.declared.pair.Pair.{Pair}
-use Rattle.circuit_set.specs.Pumps as pumps
-use Rattle.circuit_set.specs.Pumps.{SetTold, Of, Dropped}
-use Rattle.circuit_set.specs.Sets as sets
+use Rattle.circuit_table.specs.Pumps as pumps
+use Rattle.circuit_table.specs.Pumps.{SetTold, Of, Dropped}
+use Rattle.circuit_table.specs.Sets as sets
 use Rattle.l3_datagram.specs.declared.routed.Routed.{Routed}
 use Rattle.node_turns.specs.States as nodes
 use Rattle.net_replay.specs.ToldLines.{drop_word, link_word, notice_word}

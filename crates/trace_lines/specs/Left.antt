@@ -4,8 +4,8 @@ use Rattle.ax_address.specs.Alias as aliases
 use Rattle.ax_address.specs.Callsign as calls
 use Rattle.ax_address.specs.Callsign.{Callsign}
 use Rattle.circuit_l4.specs.declared.facts.EndFacts.{EndFacts}
-use Rattle.circuit_set.specs.CircuitSets.{facts_at}
-use Rattle.circuit_set.specs.Sets.{Holder, end_of}
+use Rattle.circuit_table.specs.CircuitSets.{facts_at}
+use Rattle.circuit_table.specs.Sets.{Holder, end_of}
 use Rattle.route_table.specs.declared.route.Route.{Route}
 use Rattle.net_replay.specs.declared.ends.EndRecord.{EndRecord}
 use Rattle.net_replay.specs.declared.outcome.Outcome.{Outcome}

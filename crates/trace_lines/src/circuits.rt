@@ -3,7 +3,7 @@ ghost use Rattle.std.specs.Prelude.{◌≡◌, ◌++◌, [], ◌∷◌, OnOk, If
 ghost use Rattle.std.specs.Fmt.{decimal};
 ghost use Rattle.std.specs.Option.{option_map};
 ghost use Rattle.ax_address.specs.Callsign as calls;
-ghost use Rattle.circuit_set.specs.Standing.{event_told};
+ghost use Rattle.circuit_table.specs.Standing.{event_told};
 ghost use Rattle.node_core.specs.Standing.{entry_of};
 ghost use Rattle.net_replay.specs.ToldLines.{drop_word, notice_word};
 ghost use Rattle.trace_lines.specs.Circuits as circuits;

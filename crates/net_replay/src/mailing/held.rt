@@ -2,10 +2,10 @@
 ghost use Rattle.std.specs.Prelude.{◌≡◌, ℕ, IfOk, slice_get};
 ghost use Rattle.std.specs.Option.{option_copied};
 ghost use Rattle.circuit_l4.specs.State as ends;
-ghost use Rattle.circuit_set.specs.CircuitSets as sets;
-ghost use Rattle.circuit_set.specs.CircuitSets.{LentStands};
-ghost use Rattle.circuit_set.specs.Sets.{end_of};
-ghost use Rattle.circuit_set.specs.Standing.{take_answer};
+ghost use Rattle.circuit_table.specs.CircuitSets as sets;
+ghost use Rattle.circuit_table.specs.CircuitSets.{LentStands};
+ghost use Rattle.circuit_table.specs.Sets.{end_of};
+ghost use Rattle.circuit_table.specs.Standing.{take_answer};
 ghost use Rattle.net_replay.specs.Agents as agents;
 ghost use Rattle.net_replay.specs.Mailing as mailing;
 ghost use Rattle.net_replay.specs.Mailing.{ends_here};

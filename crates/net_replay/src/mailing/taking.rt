@@ -1,6 +1,6 @@
 //! What waits at the ends of an agent is taken, heard and answered.
 ghost use Rattle.std.specs.Prelude.{◌≡◌, ◌-◌, ◌++◌, ℕ, suc, List, Option, OnOk, IfOk, IfErr, map, Some, Err};
-ghost use Rattle.circuit_set.specs.CircuitSets.{held_ids};
+ghost use Rattle.circuit_table.specs.CircuitSets.{held_ids};
 ghost use Rattle.node_mail.specs.Lists.{octets_in};
 ghost use Rattle.node_mail.specs.Wires.{Wire};
 ghost use Rattle.net_replay.specs.Agents as agents;

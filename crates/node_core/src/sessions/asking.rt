@@ -1,13 +1,13 @@
 //! The lines of a user at the prompt.
 ghost use Rattle.std.specs.Prelude.{◌≡◌, IfOk, OnOk, ◌≢◌};
-ghost use Rattle.circuit_set.specs.declared.refusal.ConnectRefusal.TheVariants as connecting;
+ghost use Rattle.circuit_table.specs.declared.refusal.ConnectRefusal.TheVariants as connecting;
 ghost use Rattle.node_turns.specs.Asking as asking;
 ghost use Rattle.node_turns.specs.States.{State};
 ghost use Rattle.node_turns.specs.Users as users;
 
 use crate::station::Station;
 use ax_address::Call;
-use circuit_set::ConnectRefusal;
+use circuit_table::ConnectRefusal;
 use l3_datagram::Message;
 use node_prompt::{Action, Sight, Trouble};
 use radio_base::{Moment, NoMemory};

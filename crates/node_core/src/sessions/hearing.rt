@@ -1,6 +1,6 @@
 //! What has happened, as the sessions hear it.
 ghost use Rattle.std.specs.Prelude.{◌≡◌, OnOk, map};
-ghost use Rattle.circuit_set.specs.Standing.{event_told};
+ghost use Rattle.circuit_table.specs.Standing.{event_told};
 ghost use Rattle.node_turns.specs.Serving as serving;
 ghost use Rattle.node_turns.specs.Sessions as sessions;
 ghost use Rattle.node_turns.specs.States as states;
@@ -12,7 +12,7 @@ use crate::station::Station;
 use ax_address::Call;
 use ax_link::LinkNotice;
 use circuit_l4::EndNotice;
-use circuit_set::SetEvent;
+use circuit_table::SetEvent;
 use node_turns::User;
 use radio_base::NoMemory;
 

@@ -8,7 +8,7 @@ ghost use Rattle.node_turns.specs.Users as users;
 use crate::sessions::Session;
 use crate::sessions::users::is_gone;
 use crate::station::Station;
-use circuit_set::CircuitSet;
+use circuit_table::CircuitSet;
 use link_table::LinkTable;
 use node_turns::Stage;
 use radio_base::{Moment, NoMemory};

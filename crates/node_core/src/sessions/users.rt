@@ -2,7 +2,7 @@
 ghost use Rattle.std.specs.Prelude.{◌≡◌, IfOk, OnOk, slice_get};
 ghost use Rattle.std.specs.Fn.{FnOnceReturnsAtMut};
 ghost use Rattle.std.specs.Option.{option_copied};
-ghost use Rattle.circuit_set.specs.CircuitSets.{partner_at};
+ghost use Rattle.circuit_table.specs.CircuitSets.{partner_at};
 ghost use Rattle.node_turns.specs.Users as users;
 ghost use Rattle.link_table.specs.Standing.{TextNotNoMemory};
 ghost use Rattle.node_core.specs.Going.{SetHoldsTold};
@@ -12,7 +12,7 @@ use crate::sessions::Session;
 use crate::station::Station;
 use ax_address::Call;
 use circuit_l4::EndPhase;
-use circuit_set::{CircuitSet, NoEnd, SetRefusal};
+use circuit_table::{CircuitSet, NoEnd, SetRefusal};
 use l3_datagram::Message;
 use link_table::{LinkTable, TextRefusal};
 use node_turns::User;

@@ -1,7 +1,7 @@
 //! What a user sees of this node.
 ghost use Rattle.std.specs.Prelude.{◌≡◌, IfOk, filter, flat_map, take, slice_get};
 ghost use Rattle.std.specs.Option.{option_to_list};
-ghost use Rattle.circuit_set.specs.CircuitSets.{held_ids};
+ghost use Rattle.circuit_table.specs.CircuitSets.{held_ids};
 ghost use Rattle.node_prompt.specs.declared.sight.Sight.TheVariants as sights;
 ghost use Rattle.node_turns.specs.States.{State};
 ghost use Rattle.node_turns.specs.Asking as views;

@@ -4,7 +4,7 @@ use Rattle.node_core.specs.Standing.{Kept}
 use Rattle.network_file.specs.declared.plan.declarations.Declaration.{Declaration}
 use Rattle.net_replay.specs.Starting.{Placed, new_placed}
 use Rattle.net_replay.specs.Traces.{StandFor}
-use Rattle.circuit_set.specs.Runs.{AreStarts}
+use Rattle.circuit_table.specs.Runs.{AreStarts}
 use Rattle.net_replay.specs.Promises.{sets_of}
 use Rattle.net_replay.proofs.Numbers.{behind, start_behind}
 use Rattle.net_replay.proofs.stations.nodes_of.Goals as goal

@@ -1,5 +1,5 @@
 use Rattle.std.proofs.Common.{map, take}
-use Rattle.circuit_set.specs.Runs.{AreStarts}
+use Rattle.circuit_table.specs.Runs.{AreStarts}
 use Rattle.net_replay.specs.Promises.{sets_of}
 use Rattle.net_replay.specs.Starting.{new_placed}
 use Rattle.net_replay.specs.Traces.{StandFor}

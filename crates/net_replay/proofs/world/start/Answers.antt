@@ -2,7 +2,7 @@ use Rattle.std.proofs.Common.{◌∙◌, ap, sym, subst, map, List, refl}
 use Rattle.std.specs.Prelude.{nat_le, if◌then◌else◌}
 use Rattle.circuit_verdict.specs.declared.allowance.Allowance.TheVariants.{Fixed, OfWindow}
 use Rattle.network_file.specs.declared.plan.declarations.Declaration.{Declaration}
-use Rattle.circuit_set.specs.Runs.{AreStarts}
+use Rattle.circuit_table.specs.Runs.{AreStarts}
 use Rattle.net_replay.specs.Promises.{sets_of}
 use Rattle.net_replay.specs.Events.{numbered_of}
 use Rattle.net_replay.specs.Starting.{by_number, new_mail, new_placed}

@@ -2,7 +2,7 @@ use Rattle.std.proofs.Common.{◌+◌, ◌∙◌, sym, ap, drop, List}
 use Rattle.std.specs.Prelude.{flat_map, slice_get, Option}
 use Rattle.std.proofs.lemmas.List.{drop_all}
 use Rattle.circuit_set.specs.Books.{first_name}
-use Rattle.circuit_set.specs.Events.{Name}
+use Rattle.circuit_table.specs.Events.{Name}
 use Rattle.circuit_verdict.specs.Causes.{kept_partners}
 use Rattle.circuit_verdict.proofs.Causes.{found_first, holders_kept}
 use Rattle.circuit_verdict.proofs.ends.Ends.holder.Goals as goal

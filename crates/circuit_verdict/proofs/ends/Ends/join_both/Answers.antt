@@ -1,5 +1,5 @@
 use Rattle.indexmap.specs.IndexMap.{get}
-use Rattle.circuit_set.specs.Events.{Name, same_name}
+use Rattle.circuit_table.specs.Events.{Name, same_name}
 use Rattle.circuit_verdict.specs.Lists.{list_in}
 use Rattle.circuit_verdict.proofs.Made.{facing_pushed}
 use Rattle.circuit_verdict.proofs.ends.Ends.join_both.Goals as goal

@@ -1,7 +1,7 @@
 use Rattle.std.proofs.Common.{◌∙◌, sym, ap, List}
 use Rattle.std.specs.Prelude.{filter, slice_get}
 use Rattle.std.proofs.lemmas.List.{drop_all}
-use Rattle.circuit_set.specs.Events.{Name}
+use Rattle.circuit_table.specs.Events.{Name}
 use Rattle.circuit_verdict.specs.Ends.{kept_faces}
 use Rattle.circuit_verdict.proofs.Causes.{fails, passes}
 use Rattle.circuit_verdict.proofs.ends.Ends.open_partner.Goals as goal

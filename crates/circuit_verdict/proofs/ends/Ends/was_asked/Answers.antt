@@ -1,7 +1,7 @@
 use Rattle.std.proofs.Common.{◌≡◌, ◌∙◌, sym, rules}
 use Rattle.std.specs.Prelude.{None}
 use Rattle.indexmap.specs.IndexMap.{get}
-use Rattle.circuit_set.specs.Events.{same_name}
+use Rattle.circuit_table.specs.Events.{same_name}
 use Rattle.circuit_verdict.proofs.Made.{unasked_none}
 use Rattle.circuit_verdict.proofs.ends.Ends.was_asked.Goals as goal
 

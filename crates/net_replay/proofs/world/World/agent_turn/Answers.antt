@@ -1,6 +1,6 @@
 use Rattle.std.proofs.Common.{[], arith, length, false}
 use Rattle.std.proofs.lemmas.Result.{err_from_is_err_and}
-use Rattle.circuit_set.specs.CircuitSets.{held_ids}
+use Rattle.circuit_table.specs.CircuitSets.{held_ids}
 use Rattle.net_replay.specs.Mailing.{Agent, ends_here, offer_part, take_part}
 use Rattle.net_replay.specs.Running.{course}
 use Rattle.net_replay.specs.World.{World, tell}

@@ -1,5 +1,5 @@
 use Rattle.std.proofs.Common.{◌∙◌, refl, sym, true, false}
-use Rattle.circuit_set.specs.Sets.{end_of}
+use Rattle.circuit_table.specs.Sets.{end_of}
 use Rattle.net_replay.specs.Agents.{is_up_end}
 use Rattle.net_replay.specs.Mailing.{ends_here}
 use Rattle.net_replay.proofs.Looking.{dest_when}

@@ -1,8 +1,8 @@
 use Rattle.std.proofs.Common.{◌<◌, ◌≤◌, arith, length}
 use Rattle.std.specs.Prelude.{None}
 use Rattle.std.specs.Option.{option_copied}
-use Rattle.circuit_set.specs.CircuitSets.{LentStands}
-use Rattle.circuit_set.specs.Sets.{end_of}
+use Rattle.circuit_table.specs.CircuitSets.{LentStands}
+use Rattle.circuit_table.specs.Sets.{end_of}
 use Rattle.net_replay.specs.Running.{course}
 use Rattle.net_replay.proofs.Looking.{looks, looks_none}
 use Rattle.net_replay.proofs.world.World.end_at.Goals as goal

@@ -1,6 +1,6 @@
 use Rattle.std.proofs.Common.{◌<◌, ◌≤◌, refl, arith, length}
-use Rattle.circuit_set.specs.CircuitSets.{facts_at}
-use Rattle.circuit_set.specs.Sets.{end_of}
+use Rattle.circuit_table.specs.CircuitSets.{facts_at}
+use Rattle.circuit_table.specs.Sets.{end_of}
 use Rattle.node_turns.specs.States.{NodeState}
 use Rattle.net_replay.specs.Running.{course, facts_of}
 use Rattle.net_replay.proofs.Placing.{asked, asked_none}

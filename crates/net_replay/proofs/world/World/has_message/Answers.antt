@@ -1,4 +1,4 @@
-use Rattle.circuit_set.specs.Sets.{end_of}
+use Rattle.circuit_table.specs.Sets.{end_of}
 use Rattle.net_replay.specs.Mailing.{ends_here}
 use Rattle.net_replay.proofs.Looking.{lent_waits, none_waits}
 use Rattle.net_replay.proofs.world.World.has_message.Goals as goal

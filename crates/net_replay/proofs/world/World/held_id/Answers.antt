@@ -1,6 +1,6 @@
 use Rattle.std.proofs.Common.{◌≡◌, ◌<◌, ◌≤◌, refl, arith, length}
 use Rattle.std.specs.Prelude.{None, slice_get}
-use Rattle.circuit_set.specs.CircuitSets.{held_ids}
+use Rattle.circuit_table.specs.CircuitSets.{held_ids}
 use Rattle.net_replay.specs.Running.{course}
 use Rattle.net_replay.proofs.Looking.{looks, looks_none}
 use Rattle.net_replay.proofs.world.World.held_id.Goals as goal

@@ -1,5 +1,5 @@
 use Rattle.std.proofs.Common.{◌∙◌, ◌∷◌, ◌++◌, [], ap, sym, add-one, take}
-use Rattle.circuit_set.specs.CircuitSets.{held_ids}
+use Rattle.circuit_table.specs.CircuitSets.{held_ids}
 use Rattle.net_replay.specs.Mailing.{ends_here}
 use Rattle.net_replay.proofs.Looking.{ids_end, ids_more}
 use Rattle.net_replay.proofs.world.World.held_ids.Goals as goal

@@ -1,5 +1,5 @@
 use Rattle.std.proofs.Common.{◌≡◌, take}
-use Rattle.circuit_set.specs.CircuitSets.{held_ids}
+use Rattle.circuit_table.specs.CircuitSets.{held_ids}
 use Rattle.net_replay.specs.Mailing.{ends_here}
 use Rattle.net_replay.specs.Running.{Stands, course}
 use Rattle.net_replay.specs.World.{World}

@@ -1,8 +1,8 @@
 use Rattle.std.proofs.Common.{◌∙◌, refl, sym, true, false}
 use Rattle.std.specs.Prelude.{is_some}
 use Rattle.std.specs.Option.{option_copied}
-use Rattle.circuit_set.specs.CircuitSets.{facts_at}
-use Rattle.circuit_set.specs.Sets.{end_of}
+use Rattle.circuit_table.specs.CircuitSets.{facts_at}
+use Rattle.circuit_table.specs.Sets.{end_of}
 use Rattle.net_replay.specs.Mailing.{ends_here}
 use Rattle.net_replay.specs.Running.{course}
 use Rattle.net_replay.proofs.Looking.{agents_is, lent_held}

@@ -1,7 +1,7 @@
 use Rattle.std.proofs.Common.{◌≡◌, ◌<◌, ◌≤◌, ◌∙◌, refl, ap, arith, length}
 use Rattle.std.specs.Prelude.{false, unwrap_or}
-use Rattle.circuit_set.specs.CircuitSets.{held_by}
-use Rattle.circuit_set.specs.Sets.{end_of}
+use Rattle.circuit_table.specs.CircuitSets.{held_by}
+use Rattle.circuit_table.specs.Sets.{end_of}
 use Rattle.net_replay.specs.Agents.{is_requested}
 use Rattle.net_replay.specs.Running.{course}
 use Rattle.net_replay.proofs.Looking.{looks, looks_none, requested_is}

@@ -1,5 +1,5 @@
 use Rattle.std.proofs.Common.{◌∙◌}
-use Rattle.circuit_set.specs.Sets.{end_of}
+use Rattle.circuit_table.specs.Sets.{end_of}
 use Rattle.net_replay.specs.Mailing.{ends_here}
 use Rattle.net_replay.proofs.Looking.{lent_writes, none_writes}
 use Rattle.net_replay.proofs.world.World.may_write.Goals as goal

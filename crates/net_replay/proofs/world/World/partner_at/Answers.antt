@@ -1,7 +1,7 @@
 use Rattle.std.proofs.Common.{◌≡◌, ◌<◌, ◌≤◌, refl, arith, length}
 use Rattle.std.specs.Prelude.{None}
-use Rattle.circuit_set.specs.CircuitSets.{partner_at}
-use Rattle.circuit_set.specs.Sets.{end_of}
+use Rattle.circuit_table.specs.CircuitSets.{partner_at}
+use Rattle.circuit_table.specs.Sets.{end_of}
 use Rattle.net_replay.specs.Running.{course}
 use Rattle.net_replay.proofs.Looking.{looks, looks_none}
 use Rattle.net_replay.proofs.world.World.partner_at.Goals as goal

@@ -1,5 +1,5 @@
 use Rattle.std.proofs.Common.{◌≡◌, drop}
-use Rattle.circuit_set.specs.CircuitSets.{held_ids}
+use Rattle.circuit_table.specs.CircuitSets.{held_ids}
 use Rattle.net_replay.specs.Agents.{AgentStands}
 use Rattle.net_replay.specs.Mailing.{Agent, ends_here, take_at}
 use Rattle.net_replay.specs.Running.{course}

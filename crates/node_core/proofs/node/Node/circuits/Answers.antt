@@ -1,6 +1,6 @@
 use Rattle.std.proofs.Common.{subst}
-use Rattle.circuit_set.specs.CircuitSets.{SetStands}
-use Rattle.circuit_set.specs.Pumps.{Waiting}
+use Rattle.circuit_table.specs.CircuitSets.{SetStands}
+use Rattle.circuit_table.specs.Pumps.{Waiting}
 use Rattle.node_core.proofs.node.Node.circuits.Goals as goal
 
 pub returns-clause-stands : goal.returns-clause-stands

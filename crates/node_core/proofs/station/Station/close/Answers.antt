@@ -1,8 +1,8 @@
 use Rattle.std.proofs.Common.{ap, subst}
 use Rattle.std.proofs.lemmas.Result.{err_from_is_err_and}
-use Rattle.circuit_set.specs.CircuitSets.{SetStands}
-use Rattle.circuit_set.specs.Pumps as inputs
-use Rattle.circuit_set.specs.Sets as sets
+use Rattle.circuit_table.specs.CircuitSets.{SetStands}
+use Rattle.circuit_table.specs.Pumps as inputs
+use Rattle.circuit_table.specs.Sets as sets
 use Rattle.node_core.specs.Acts.{answer_to_close}
 use Rattle.node_turns.specs.Links.{acts}
 use Rattle.node_core.proofs.Holding.{set_steps}

@@ -1,4 +1,4 @@
-use Rattle.circuit_set.specs.Sets as sets
+use Rattle.circuit_table.specs.Sets as sets
 use Rattle.node_turns.specs.Links as circuits
 use Rattle.node_turns.specs.States.{State, at_set}
 use Rattle.node_core.proofs.Using.{drained, set_acts}

@@ -1,7 +1,7 @@
 use Rattle.std.proofs.Common.{◌≡◌, ◌∙◌, [], refl, sym, ap, subst}
 use Rattle.std.specs.Prelude.{true, false}
-use Rattle.circuit_set.specs.Sets as sets
-use Rattle.circuit_set.specs.Standing as answers
+use Rattle.circuit_table.specs.Sets as sets
+use Rattle.circuit_table.specs.Standing as answers
 use Rattle.node_turns.specs.Bridging as bridging
 use Rattle.node_turns.specs.Links as circuits
 use Rattle.node_turns.specs.Pumping.{pump}

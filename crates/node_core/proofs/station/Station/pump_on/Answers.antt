@@ -1,5 +1,5 @@
 use Rattle.std.proofs.Common.{◌++◌, ◌∙◌, [], ◌∷◌, refl, subst, sym}
-use Rattle.circuit_set.specs.Standing.{event_told}
+use Rattle.circuit_table.specs.Standing.{event_told}
 use Rattle.node_core.specs.declared.entry.NodeEntry.TheVariants.{Set}
 use Rattle.node_turns.specs.Pumping.{pump}
 use Rattle.node_core.specs.Standing.{Holds}

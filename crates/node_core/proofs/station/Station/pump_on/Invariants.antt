@@ -1,5 +1,5 @@
 use Rattle.std.proofs.Common.{◌≡◌}
-use Rattle.circuit_set.specs.CircuitSets.{untold_by}
+use Rattle.circuit_table.specs.CircuitSets.{untold_by}
 use Rattle.node_turns.specs.Pumping.{pump}
 use Rattle.node_core.specs.Standing.{Holds}
 use Rattle.node_turns.specs.States.{State}

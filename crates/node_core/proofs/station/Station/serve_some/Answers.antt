@@ -1,6 +1,6 @@
 use Rattle.std.proofs.Common.{◌≡◌, ◌∙◌, subst, sym}
 use Rattle.std.specs.Prelude.{false, if◌then◌else◌}
-use Rattle.circuit_set.specs.Pumps.{Waiting, at_rest}
+use Rattle.circuit_table.specs.Pumps.{Waiting, at_rest}
 use Rattle.node_turns.specs.Serving.{serve_sessions, drop_turn}
 use Rattle.node_core.specs.Going.{HasTurned}
 use Rattle.node_turns.proofs.Settled.{dropped_set}

@@ -1,5 +1,5 @@
 use Rattle.std.proofs.Common.{◌∙◌, ap, refl, subst, rules}
-use Rattle.circuit_set.specs.Sets as sets
+use Rattle.circuit_table.specs.Sets as sets
 use Rattle.node_prompt.specs.Replies as texts
 use Rattle.node_turns.specs.Asking as asking
 use Rattle.node_turns.specs.Bridging as bridging

@@ -1,5 +1,5 @@
 use Rattle.std.proofs.Common.{append-nil, arith, sym}
-use Rattle.circuit_set.specs.CircuitSets.{held_ids}
+use Rattle.circuit_table.specs.CircuitSets.{held_ids}
 use Rattle.node_turns.specs.Asking as views
 use Rattle.node_core.proofs.Seeing.{next_pushed}
 use Rattle.node_core.proofs.station.Station.users.Goals as goal

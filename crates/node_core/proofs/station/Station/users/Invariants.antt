@@ -1,5 +1,5 @@
 use Rattle.std.proofs.Common.{◌≡◌, ◌≤◌, flat_map, length, take}
-use Rattle.circuit_set.specs.CircuitSets.{held_ids}
+use Rattle.circuit_table.specs.CircuitSets.{held_ids}
 use Rattle.node_core.specs.Going.{HoldsTold}
 use Rattle.node_turns.specs.States.{State}
 use Rattle.node_turns.specs.Asking as views

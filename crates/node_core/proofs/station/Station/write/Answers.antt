@@ -1,9 +1,9 @@
 use Rattle.std.proofs.Common.{refl, subst}
 use Rattle.std.specs.Prelude.{Ok, Err}
 use Rattle.std.proofs.lemmas.Result.{err_from_is_err_and}
-use Rattle.circuit_set.specs.CircuitSets.{SetStands}
-use Rattle.circuit_set.specs.Pumps as inputs
-use Rattle.circuit_set.specs.Sets as sets
+use Rattle.circuit_table.specs.CircuitSets.{SetStands}
+use Rattle.circuit_table.specs.Pumps as inputs
+use Rattle.circuit_table.specs.Sets as sets
 use Rattle.node_core.specs.declared.acts.ActDone.TheVariants.{Done}
 use Rattle.node_core.specs.Acts.{write_by, write_refusal}
 use Rattle.node_turns.specs.Links.{acts}

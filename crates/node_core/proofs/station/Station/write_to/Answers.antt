@@ -1,5 +1,5 @@
 use Rattle.std.proofs.Common.{subst}
-use Rattle.circuit_set.specs.Sets as sets
+use Rattle.circuit_table.specs.Sets as sets
 use Rattle.node_core.specs.Standing.{Holds}
 use Rattle.node_turns.specs.States.{State}
 use Rattle.node_turns.specs.Users as users

@@ -1,4 +1,0 @@
-use Rattle.circuit_set.proofs.pair_order.+next_free.Given as goal
-
-abbrev pub decreases-next_free : goal.decreases-next_free
-decreases-next_free l = l.many

@@ -1,9 +1,0 @@
-use Rattle.circuit_set.specs.CircuitSets.{Circuits}
-use Rattle.circuit_set.specs.Sets as sets
-use Rattle.circuit_set.proofs.Kept.{held_keeps}
-use Rattle.circuit_set.proofs.set.CircuitSet.discard.Goals as goal
-
-pub returns-then-not-self-clause-kept : goal.returns-then-not-self-clause-kept
-returns-then-not-self-clause-kept g c =
-    let old : Circuits g.row.C.Denot = record { router = c.self.inside.router; held = c.self.inside.held; lost = c.self.inside.lost; spent = c.self.inside.spent } in
-    rw (← c.self.view_is) (held_keeps old c.discard.new.self (λ s. sets.set_step s (sets.Discard c.args.id)) c.discard.ensures.goes)

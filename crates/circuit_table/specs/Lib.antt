@@ -1,0 +1,11 @@
+pub mod Pairs
+pub mod Sets
+pub mod Events
+pub mod Runs
+pub mod Pumps
+pub mod Still
+pub mod Standing
+pub mod CircuitSets
+pub mod SetTurns
+pub mod Givings
+pub mod Kept
