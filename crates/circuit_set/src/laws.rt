@@ -20,6 +20,7 @@ ghost use Rattle.circuit_set.specs.ByBook.{FreshByBook, PartnersByBook, TimelyBy
 ghost use Rattle.circuit_set.specs.ByBook.{HeldByBook, OvertakenByBook, TooManyByBook, UnaskedByBook, UnsentByBook};
 ghost use Rattle.circuit_set.specs.NotedRuns.{NarrowIsTimely, PartnersStay, WindowsFit};
 
+// (these stand with the machine, since the node's proofs call them)
 pub use circuit_table::laws::{kept, telling_ends};
 
 /// At each moment of every run of several nodes' ends, in which any datagram whatever may come to any node and any node may

@@ -1,6 +1,4 @@
-//! The circuits of a node, and what holds of circuits over every schedule.
-//!
-//! The machine itself stands in `circuit_table`, whose calls this crate hands on; here stand its laws.
+//! What holds of circuits over every schedule: laws of the machine of `circuit_table`, whose calls this crate hands on.
 #![tactic(auto)]
 
 pub mod laws;

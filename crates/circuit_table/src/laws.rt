@@ -1,4 +1,4 @@
-//! What holds of every set of ends, and what the calls above it rest on.
+//! What a set keeps, and why its telling ends: on these two a node's own bound and its turns rest. The other laws stand in `circuit_set`.
 ghost use Rattle.circuit_table.specs.Kept.{KeepsItsShare, WindowsAreSmall};
 ghost use Rattle.circuit_table.specs.Pumps.{TellsLess};
 

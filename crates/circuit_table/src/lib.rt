@@ -1,4 +1,5 @@
-//! The circuits of a node, and what holds of circuits over every schedule.
+//! The circuits of a node: its ends by number, what they send and heed, and what they tell. What holds of circuits over every schedule
+//! stands in `circuit_set`, which hands on these calls.
 #![tactic(auto)]
 
 mod event;

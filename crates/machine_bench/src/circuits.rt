@@ -1,7 +1,7 @@
 //! Messages over a circuit.
 use ax_address::{Alias, Call};
 use circuit_l4::{EndConfig, Pair};
-use circuit_set::CircuitSet;
+use circuit_table::CircuitSet;
 use l3_datagram::{Message, PlainCarrier, Router};
 use radio_base::{Moment, NoMemory};
 use route_table::{RouteRules, RouteTable};

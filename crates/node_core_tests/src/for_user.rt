@@ -2,7 +2,7 @@
 use crate::nodes::{NOW, a_call, b_call, config, done, flow, node};
 use ax_address::{Alias, Call};
 use circuit_l4::{Transport, read_transport};
-use circuit_set::SetEvent;
+use circuit_table::SetEvent;
 use node_core::{ActDone, Node, NodeEntry, UserAct};
 use radio_base::Moment;
 use std::process::Abort;

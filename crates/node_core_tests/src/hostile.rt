@@ -3,7 +3,7 @@ ghost use Rattle.std.specs.Prelude.{◌≤◌};
 
 use crate::nodes::{a_call, node, take_in};
 use crate::stream::Seeded;
-use circuit_set::SetEvent;
+use circuit_table::SetEvent;
 use link_table::Written;
 use node_core::{Node, NodeEntry};
 use radio_base::NoMemory;

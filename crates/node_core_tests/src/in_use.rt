@@ -1,7 +1,7 @@
 //! The lines that stand at `Node`.
 use crate::nodes::{NOW, a_call, b_call, config};
 use ax_link::LinkNotice;
-use circuit_set::SetEvent;
+use circuit_table::SetEvent;
 use link_table::Written;
 use node_core::{ActDone, Node, NodeEntry, UserAct};
 use radio_base::Moment;

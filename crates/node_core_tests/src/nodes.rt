@@ -5,7 +5,7 @@ use arrayvec::ArrayVec;
 use ax_address::{Address, Alias, Call, Path};
 use ax_link::LinkConfig;
 use circuit_l4::{EndConfig, EndNotice, Pair};
-use circuit_set::SetEvent;
+use circuit_table::SetEvent;
 use kiss_framing::enframe;
 use link_table::{Written, WrittenAs};
 use node_core::{ActDone, ActRefusal, Node, NodeConfig, NodeEntry, UserAct};

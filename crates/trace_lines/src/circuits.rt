@@ -16,7 +16,7 @@ use crate::stands::{AtNode, Stand};
 use ax_address::Call;
 use ax_link::LinkNotice;
 use circuit_l4::{EndFacts, EndNotice, Pair};
-use circuit_set::SetEvent;
+use circuit_table::SetEvent;
 use l3_datagram::{Datagram, Routed};
 use net_replay::{drop_word, link_word, notice_word};
 use node_core::NodeEntry;
