@@ -24,7 +24,8 @@ use Rattle.net_replay.specs.Circuits.{CircuitEvent}
 use Rattle.net_replay.specs.Ends.{ends_of, note_event, note_events, with_offered}
 use Rattle.net_replay.specs.Events as events
 use Rattle.net_replay.specs.Events.{Event, NumberedEvent}
-use Rattle.net_replay.specs.Starting.{Placed, config_of, new_nodes}
+use Rattle.net_replay.specs.Starting.{Placed, new_nodes}
+use Rattle.node_settings.specs.Settings.{config_of}
 use Rattle.net_replay.specs.World.{is_node, numbered, place_of_node}
 use Rattle.net_replay.proofs.Remembering.{Past, Rising, lift}
 

@@ -41,7 +41,8 @@ use Rattle.net_replay.specs.Mailing.{with_mail}
 use Rattle.node_mail.specs.Lists.{Lists}
 use Rattle.net_replay.specs.Hops.{all_borne, node_at}
 use Rattle.net_replay.specs.Lines.{kiss_bytes, restart, settle}
-use Rattle.net_replay.specs.Starting.{Placed, by_number, config_of, is_via_of, new_nodes, path_of, repeater, with_via, with_via_by, with_vias}
+use Rattle.net_replay.specs.Starting.{Placed, by_number, new_nodes}
+use Rattle.node_settings.specs.Settings.{config_of, is_via_of, path_of, repeater, with_via, with_via_by, with_vias}
 use Rattle.net_replay.specs.World as worlds
 use Rattle.net_replay.proofs.Containing.{AreApart, Contains, IsQuiet, Tracks, TracksAt, comes_contains, events_append, name_at, names, quiet_contains}
 use Rattle.net_replay.proofs.LineWalks.{IsPlain, Moves}

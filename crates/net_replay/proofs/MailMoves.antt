@@ -36,7 +36,8 @@ use Rattle.net_replay.specs.Ends.{ends_of}
 use Rattle.net_replay.specs.Events.{Event}
 use Rattle.net_replay.specs.Lines.{restart}
 use Rattle.net_replay.specs.Mailing.{mail_at, mail_in, with_mail}
-use Rattle.net_replay.specs.Starting.{Placed, by_number, config_of, is_via_of, new_nodes, new_placed, path_of, started, with_via, with_via_by, with_vias}
+use Rattle.net_replay.specs.Starting.{Placed, by_number, new_nodes, new_placed, started}
+use Rattle.node_settings.specs.Settings.{config_of, is_via_of, path_of, with_via, with_via_by, with_vias}
 use Rattle.net_replay.specs.World as worlds
 use Rattle.net_replay.specs.World.{Bytes, Input, Time, World, after, all_fetched_of, all_told, place_of_node, put, reach, tell, tells_entries}
 use Rattle.net_replay.proofs.Containing.{AreApart, Contains, IsQuiet, name_at, names, quiet_contains}

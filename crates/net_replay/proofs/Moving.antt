@@ -33,7 +33,8 @@ use Rattle.net_replay.specs.Ends.{ends_of, note_entry, note_event, note_events, 
 use Rattle.net_replay.specs.Events as events
 use Rattle.net_replay.specs.Events.{Event, NumberedEvent}
 use Rattle.net_replay.specs.Lines.{loss_of, losses_of}
-use Rattle.net_replay.specs.Starting.{Placed, config_of, is_via_of, path_of, started, with_via, with_via_by, with_vias}
+use Rattle.net_replay.specs.Starting.{Placed, started}
+use Rattle.node_settings.specs.Settings.{config_of, is_via_of, path_of, with_via, with_via_by, with_vias}
 use Rattle.net_replay.specs.World.{all_fetched_of, numbered}
 use Rattle.net_replay.proofs.Containing.{Tracks, at_name, ends_config, events_by, is_named, told_by}
 use Rattle.net_replay.proofs.Remembering.{Past, Rising, below_none, lift, rising_le, rising_more}

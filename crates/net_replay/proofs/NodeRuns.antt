@@ -25,7 +25,8 @@ use Rattle.node_core.specs.Acts.{UserAct}
 use Rattle.net_replay.specs.Promises.{IsInstruction, IsLine, IsSound}
 use Rattle.net_replay.specs.Ends.{ends_of}
 use Rattle.net_replay.specs.Lines.{do_lines}
-use Rattle.net_replay.specs.Starting.{Placed, by_number, config_of, is_via_of, new_nodes, new_placed, path_of, started, with_via, with_via_by, with_vias}
+use Rattle.net_replay.specs.Starting.{Placed, by_number, new_nodes, new_placed, started}
+use Rattle.node_settings.specs.Settings.{config_of, is_via_of, path_of, with_via, with_via_by, with_vias}
 use Rattle.net_replay.specs.World as worlds
 use Rattle.net_replay.specs.World.{Input, Time, World, after, all_fetched_of, all_told, place_of_node, put, reach, start}
 use Rattle.net_replay.proofs.LineWalks.{IsPlain, LineIs, Moves, lines_lead}

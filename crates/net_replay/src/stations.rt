@@ -1,25 +1,21 @@
 //! The nodes of a replay as they start, by number, and their tables as they are shown.
-ghost use Rattle.std.specs.Prelude.{◌≡◌, ◌≤◌, ◌<◌, ◌+◌, ◌++◌, ◌∷◌, [], ℕ, List, filter, map, IfOk, OnOk};
-ghost use Rattle.arrayvec.specs.ArrayVec.{array_vec_len};
+ghost use Rattle.std.specs.Prelude.{◌≡◌, ◌≤◌, ◌++◌, filter, map, IfOk, OnOk};
 ghost use Rattle.ax_address.specs.Callsign.{IsCallsign};
 ghost use Rattle.circuit_table.specs.Pairs.{IsPair};
 ghost use Rattle.circuit_table.specs.Runs.{AreStarts, IsStart};
-ghost use Rattle.link_table.specs.Calls as links;
-ghost use Rattle.node_core.specs.Standing.{NodeGoes, NodeStands};
-ghost use Rattle.node_turns.specs.States.{NodeState, at_links};
+ghost use Rattle.node_core.specs.Standing.{NodeStands};
+ghost use Rattle.node_turns.specs.States.{NodeState};
 ghost use Rattle.net_replay.specs.Promises.{sets_of};
 ghost use Rattle.net_replay.specs.Lines as lines;
 ghost use Rattle.net_replay.specs.Starting as starting;
-ghost use Rattle.net_replay.specs.Starting.{Placed};
 ghost use Rattle.net_replay.specs.Traces.{StandFor};
 
-use crate::settings::config_of;
 use crate::table::Table;
-use ax_address::{Address, Call, Path};
+use ax_address::Call;
 use circuit_l4::Pair;
-use link_table::PathRefusal;
-use network_file::{Declaration, MAX_NODES, Network, Via};
+use network_file::{Declaration, MAX_NODES, Network};
 use node_core::Node;
+use node_settings::{config_of, set_paths};
 use radio_base::NoMemory;
 use std::alloc::Global;
 
@@ -93,70 +89,6 @@ pub fn is_callsign(call: &Call)
     ensures { IsCallsign call.now.letters call.now.ssid }
 {
     let _ = call.ssid();
-}
-
-/// Sets the repeaters over which a node reaches its peers.
-pub fn set_paths(node: &mut Node, number: u8, vias: &[Via]) -> Result<(), NoMemory>
-    ensures { OnOk result (NodeGoes
-        (starting.with_vias (filter (starting.is_via_of number) vias.now)) node.old node.new) }
-{
-    for via in vias {
-        set_own_path(node, number, via)?;
-    }
-    Ok(())
-}
-
-/// Sets the repeaters over which a node reaches a peer, if they are those of the node of that number.
-fn set_own_path(node: &mut Node, number: u8, via: &Via) -> Result<(), NoMemory>
-    ensures { OnOk result (NodeGoes
-        (starting.with_vias (filter (starting.is_via_of number) (via.now ∷ []))) node.old node.new) }
-{
-    if via.node == number {
-        set_path(node, via)
-    } else {
-        Ok(())
-    }
-}
-
-/// Sets the repeaters over which a node reaches a peer.
-fn set_path(node: &mut Node, via: &Via) -> Result<(), NoMemory>
-    ensures { OnOk result (NodeGoes (starting.with_via via.now) node.old node.new) }
-{
-    match node.set_path(&via.peer, &path_of(via)) {
-        Ok(()) => Ok(()),
-        Err(PathRefusal::NoMemory) => Err(NoMemory),
-        Err(PathRefusal::TooLong) => Ok(()),
-        Err(PathRefusal::Full) => Ok(()),
-    }
-}
-
-/// The repeaters of a peer as a path, none of which has repeated yet.
-fn path_of(via: &Via) -> Path
-    ensures { result ≡ starting.path_of via.now }
-{
-    let mut path = Path::new();
-    for call in via.repeaters.as_slice() {
-        add_repeater(&mut path, *call);
-    }
-    path
-}
-
-fn add_repeater(path: &mut Path, call: Call)
-    requires { array_vec_len path.old < 8 }
-    ensures items { path.new.items ≡ path.old.items ++ starting.repeater call ∷ [] }
-    ensures len { array_vec_len path.new ≡ array_vec_len path.old + 1 }
-{
-    let _ = path.try_push(repeater(call));
-}
-
-fn repeater(call: Call) -> Address
-    ensures { result ≡ starting.repeater call }
-{
-    Address {
-        call,
-        bit7: false,
-        reserved: 3,
-    }
 }
 
 /// A node's table, as it is shown.

@@ -5,7 +5,7 @@ use Rattle.network_file.specs.declared.plan.keys.Key.TheVariants.{Interval, Prom
 use Rattle.network_file.specs.declared.plan.live.LiveNode.{LiveNode}
 use Rattle.network_file.specs.Pairs.{PairNumbers}
 use Rattle.network_file.specs.Keys.{set_to}
-use Rattle.net_replay.specs.Starting.{config_of, is_via_of, with_vias}
+use Rattle.node_settings.specs.Settings.{config_of, is_via_of, with_vias}
 use Rattle.node_core.specs.declared.config.NodeConfig.{NodeConfig}
 use Rattle.node_core.specs.Configs.{new_node}
 use Rattle.node_turns.specs.States.{NodeState}

@@ -6,9 +6,9 @@ ghost use Rattle.node_core.specs.Standing.{NodeStands};
 ghost use Rattle.node_cmd.specs.Starting as starting;
 
 use circuit_l4::Pair;
-use net_replay::{config_of, set_paths};
 use network_file::{FirstPair, Key, LiveNode, set_to};
 use node_core::{Node, NodeConfig};
+use node_settings::{config_of, set_paths};
 use radio_base::NoMemory;
 use std::alloc::Global;
 

@@ -55,48 +55,19 @@ impl Station {
             } => self.lock(dest, alias, neighbour, *quality),
             UserAct::Connect(dest) => self.connect(dest, now),
             UserAct::ConnectFor { user, dest } => self.connect_for(user, dest, now),
-            UserAct::Write { id, message } => {
-                if self.is_kept_from(*id) {
-                    return Err(ActRefusal::Served);
-                }
-                self.write(*id, message, now)
-            }
-            UserAct::Take { id } => {
-                if self.is_kept_from(*id) {
-                    return Err(ActRefusal::Served);
-                }
-                self.take(*id, now)
-            }
-            UserAct::Close { id } => {
-                if self.is_kept_from(*id) {
-                    return Err(ActRefusal::Served);
-                }
-                self.close(*id, now)
-            }
-            UserAct::TakeText(peer) => {
-                if !self.hosts {
-                    return Err(ActRefusal::Served);
-                }
-                self.take_hosted(peer, now)
-            }
-            UserAct::SendText { to, text } => {
-                if !self.hosts {
-                    return Err(ActRefusal::Served);
-                }
-                self.send_hosted(to, text, now)
-            }
-            UserAct::OpenLink { to, path } => {
-                if !self.hosts {
-                    return Err(ActRefusal::Served);
-                }
-                self.open_hosted(to, path, now)
-            }
-            UserAct::CloseLink(peer) => {
-                if !self.hosts {
-                    return Err(ActRefusal::Served);
-                }
-                self.close_hosted(peer, now)
-            }
+            UserAct::Write { id, .. } | UserAct::Take { id } | UserAct::Close { id }
+                if self.is_kept_from(*id) => Err(ActRefusal::Served),
+            UserAct::Write { id, message } => self.write(*id, message, now),
+            UserAct::Take { id } => self.take(*id, now),
+            UserAct::Close { id } => self.close(*id, now),
+            UserAct::TakeText(_)
+            | UserAct::SendText { .. }
+            | UserAct::OpenLink { .. }
+            | UserAct::CloseLink(_) if !self.hosts => Err(ActRefusal::Served),
+            UserAct::TakeText(peer) => self.take_hosted(peer, now),
+            UserAct::SendText { to, text } => self.send_hosted(to, text, now),
+            UserAct::OpenLink { to, path } => self.open_hosted(to, path, now),
+            UserAct::CloseLink(peer) => self.close_hosted(peer, now),
         }
     }
 

@@ -1,5 +1,5 @@
 use Rattle.circuit_set.proofs.Returning.{copies_alone_return}
-use Rattle.circuit_table.proofs.laws.copies_alone_return.Goals as goal
+use Rattle.circuit_set.proofs.laws.copies_alone_return.Goals as goal
 
 pub returns : goal.returns
 returns c = copies_alone_return

@@ -1,5 +1,5 @@
 use Rattle.circuit_set.proofs.Returned.{copy_returns}
-use Rattle.circuit_table.proofs.laws.copy_returns.Goals as goal
+use Rattle.circuit_set.proofs.laws.copy_returns.Goals as goal
 
 pub returns : goal.returns
 returns c = copy_returns

@@ -1,5 +1,5 @@
 use Rattle.circuit_set.proofs.Refusals.{refusals_are_unheeded, sets_refuse_under_0, starts_are_numbered}
-use Rattle.circuit_table.proofs.laws.sets_refuse_under_0.Goals as goal
+use Rattle.circuit_set.proofs.laws.sets_refuse_under_0.Goals as goal
 
 pub returns-clause-starts : goal.returns-clause-starts
 returns-clause-starts c = starts_are_numbered

@@ -1,7 +1,7 @@
 use Rattle.std.proofs.Common.{subst}
 use Rattle.node_core.specs.Configs.{IsConfig, new_node}
 use Rattle.node_core.specs.Standing.{NodeStands}
-use Rattle.net_replay.specs.Starting.{config_of}
+use Rattle.node_settings.specs.Settings.{config_of}
 use Rattle.net_replay.proofs.Numbers.{starts_well}
 use Rattle.net_replay.proofs.stations.started.Goals as goal
 

@@ -1,7 +1,7 @@
 use Rattle.std.proofs.Common.{◌≡◌, arith, true}
 use Rattle.std.specs.Prelude.{◌==◌}
 use Rattle.std.proofs.lemmas.Bool.Decides.{nat_tests}
-use Rattle.net_replay.proofs.stations.set_own_path.Goals as goal
+use Rattle.node_settings.proofs.paths.set_own_path.Goals as goal
 
 pub returns-then-via-number : goal.returns-then-via-number
 returns-then-via-number c =

@@ -1,8 +1,8 @@
 use Rattle.std.proofs.Common.{◌≡◌, drop, filter}
 use Rattle.node_core.specs.Standing.{NodeStands}
 use Rattle.node_turns.specs.States.{NodeState}
-use Rattle.net_replay.specs.Starting.{is_via_of, with_vias}
-use Rattle.net_replay.proofs.stations.set_paths.Given as goal
+use Rattle.node_settings.specs.Settings.{is_via_of, with_vias}
+use Rattle.node_settings.proofs.paths.set_paths.Given as goal
 
 abbrev pub invariant-loop-via : goal.invariant-loop-via
 invariant-loop-via l = (n : NodeState) → NodeStands l.fn.node n

@@ -1,7 +1,7 @@
 use Rattle.std.proofs.Common.{ap, sym, subst}
 use Rattle.node_core.specs.Standing.{NodeStands}
-use Rattle.net_replay.specs.Starting.{with_via, with_via_by}
-use Rattle.net_replay.proofs.stations.set_path.Goals as goal
+use Rattle.node_settings.specs.Settings.{with_via, with_via_by}
+use Rattle.node_settings.proofs.paths.set_path.Goals as goal
 
 pub returns-in-Err-TooLong : goal.returns-in-Err-TooLong
 returns-in-Err-TooLong c = λ n t.

@@ -2,9 +2,9 @@ use Rattle.std.proofs.Common.{◌≡◌, ◌∷◌, [], ◌∙◌, List, suc, sy
 use Rattle.std.proofs.Math.Seq.{drop-cons}
 use Rattle.network_file.specs.declared.plan.vias.Via.{Via}
 use Rattle.node_turns.specs.States.{NodeState}
-use Rattle.net_replay.specs.Starting.{is_via_of, with_vias}
-use Rattle.net_replay.proofs.Numbers.{one_via}
-use Rattle.net_replay.proofs.stations.set_paths.Goals as goal
+use Rattle.node_settings.specs.Settings.{is_via_of, with_vias}
+use Rattle.node_settings.proofs.Vias.{one_via}
+use Rattle.node_settings.proofs.paths.set_paths.Goals as goal
 
 pub loop-via-preserved : goal.loop-via-preserved
 loop-via-preserved c = λ n t.

@@ -5,7 +5,7 @@ ghost use Rattle.circuit_l4.specs.Opening as ends;
 ghost use Rattle.circuit_table.specs.Pairs.{IsPair};
 ghost use Rattle.node_core.specs.Configs.{IsConfig};
 ghost use Rattle.route_table.specs.Held.{AreRules};
-ghost use Rattle.net_replay.specs.Starting as starting;
+ghost use Rattle.node_settings.specs.Settings as node_settings;
 
 use ax_link::LinkConfig;
 use circuit_l4::{EndConfig, Pair};
@@ -18,7 +18,7 @@ pub fn config_of(declared: &Declaration, settings: &[Setting], pair: Pair, first
     requires pair { IsPair pair }
     requires first { 1 ≤ first }
     requires last { first ≤ 4611686018427387905 }
-    ensures value { result ≡ starting.config_of settings.now declared.now pair first }
+    ensures value { result ≡ node_settings.config_of settings.now declared.now pair first }
     ensures good { IsConfig result }
 {
     let node = declared.node;
@@ -40,7 +40,7 @@ pub fn config_of(declared: &Declaration, settings: &[Setting], pair: Pair, first
 }
 
 fn route_rules(settings: &[Setting], node: u8) -> RouteRules
-    ensures value { result ≡ starting.route_rules settings.now node }
+    ensures value { result ≡ node_settings.route_rules settings.now node }
     ensures good { AreRules result }
 {
     RouteRules {
@@ -51,7 +51,7 @@ fn route_rules(settings: &[Setting], node: u8) -> RouteRules
 }
 
 fn end_config(settings: &[Setting], node: u8) -> EndConfig
-    ensures value { result ≡ starting.end_config settings.now node }
+    ensures value { result ≡ node_settings.end_config settings.now node }
     ensures good { ends.IsConfig result }
 {
     EndConfig {
@@ -64,7 +64,7 @@ fn end_config(settings: &[Setting], node: u8) -> EndConfig
 }
 
 fn link_config(settings: &[Setting], node: u8) -> LinkConfig
-    ensures value { result ≡ starting.link_config settings.now node }
+    ensures value { result ≡ node_settings.link_config settings.now node }
     ensures t1 { result.t1 ≤ count_end }
     ensures t3 { result.t3 ≤ count_end }
 {

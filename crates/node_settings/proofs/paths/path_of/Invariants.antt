@@ -1,7 +1,7 @@
 use Rattle.std.proofs.Common.{◌≡◌, ◌≤◌, map, take, length}
 use Rattle.arrayvec.specs.ArrayVec.{array_vec_len}
-use Rattle.net_replay.specs.Starting.{repeater}
-use Rattle.net_replay.proofs.stations.path_of.Given as goal
+use Rattle.node_settings.specs.Settings.{repeater}
+use Rattle.node_settings.proofs.paths.path_of.Given as goal
 
 abbrev pub invariant-loop-call : goal.invariant-loop-call
 invariant-loop-call l =
