@@ -70,3 +70,4 @@ pub mod Lodging
 pub mod Housing
 pub mod Counting
 pub mod Peopling
+pub mod AtEnds
