@@ -60,6 +60,11 @@ pub mod FineLines
 pub mod Faithful
 pub mod FineActs
 pub mod Reached
+pub mod Shown
+pub mod Listing
+pub mod Noted
+pub mod Incoming
+pub mod Elsewhere
 mod FirstLine
 mod Framing
 mod Seeing

@@ -1,5 +1,5 @@
 -- Every node that inputs may have led to is fine.
-use Rattle.std.proofs.Common.{◌≡◌, ◌∙◌, ℕ, refl, sym, ap, subst, arith, length, List, [], ◌∷◌, ◌++◌, append-nil, append_assoc}
+use Rattle.std.proofs.Common.{◌≡◌, ◌∙◌, ℕ, zero, suc, refl, sym, ap, subst, arith, length, List, [], ◌∷◌, ◌++◌, append-nil, append_assoc, slice_get}
 use Rattle.std.specs.List.{AllByRecursion}
 use Rattle.std.specs.Prelude.{Bool, true, false, ◌||◌, ◌&&◌, ◌==◌, is_none, not, nat_le, nat_lt, if◌then◌else◌, Option, Some, None, Result, Ok, Err}
 use Rattle.ax_address.specs.Callsign.{Callsign, same_call, ReadsCallTexts}
@@ -31,6 +31,7 @@ use Rattle.node_turns.specs.declared.stage.Stage.{Stage}
 use Rattle.node_turns.specs.declared.stage.Stage.TheVariants.{AtPrompt, Trying, Failed, Connected}
 use Rattle.node_core.specs.Bridged.{Acts, BridgedAt, Bytes, EverySession, Fetches_entry, Fetches_frame, Input, IsBounded, IsBridged, IsClosedLast, IsEndsReader, IsEndsWriter, AsksForCall, Paths, Qualities, SessionsBounded, SessionsBridged, SessionsClosedLast, SessionsReadTheirEnds, SessionsWriteTheirEnds, Ticks, after, after_all}
 use Rattle.node_core.specs.Broadcasts.{is_broadcast}
+use Rattle.node_core.specs.Deeds.{EndsAreNumbered, IsApart, SessionsApart}
 use Rattle.node_turns.specs.Links as links
 use Rattle.node_core.specs.Configs.{node_of, start_of}
 use Rattle.node_core.specs.Inputs.{after_input, after_item, after_items, moment, new_items, turns_settle}
@@ -40,12 +41,14 @@ use Rattle.node_core.specs.Broadcasts as rounds
 use Rattle.node_turns.specs.Serving.{serve_sessions}
 use Rattle.node_turns.specs.Sessions.{Session, leaves}
 use Rattle.node_turns.specs.Serving as s
+use Rattle.node_turns.specs.Serving.{is_at_end}
 use Rattle.node_core.specs.Standing.{IsTold}
 use Rattle.node_turns.specs.States.{NodeState, State, at_links, at_set, fetch_own, with_items}
-use Rattle.node_turns.specs.Users.{has_taken}
+use Rattle.node_turns.specs.Users.{has_taken, session_at}
 use Rattle.node_core.specs.Waits.{has_text_at}
 use Rattle.node_core.proofs.Faithful.{sessions_fine}
 use Rattle.node_core.proofs.FineActs.{act_fine, round_fine}
+use Rattle.node_core.proofs.FineGiving.{ends_differ, other_number}
 use Rattle.node_core.proofs.Fine.{All, Fine, goes_on, pumped}
 use Rattle.node_core.proofs.Holders.{Any, ticks_keep}
 use Rattle.node_core.proofs.Given.{Given, GivesAt, away, deaf, deaf_is, given_left}
@@ -55,6 +58,7 @@ use Rattle.node_core.proofs.Nodes.{items_told, told_after}
 use Rattle.node_core.proofs.Owning.{links_fewer, owns_fewer, owns_input}
 use Rattle.node_turns.proofs.Resting.{pumped_dry}
 use Rattle.node_core.proofs.Rested.{nothing_left}
+use Rattle.node_core.proofs.Shown.{apart_of, numbers_of}
 use Rattle.node_core.proofs.Short.{Goes, IsShort, act_short, fetched_short, item_short, path_short, starts_short, walks}
 use Rattle.node_core.proofs.Walking.{tick_on, turn_on}
 use Rattle.node_core.proofs.Wrote.{Written as WritesAll, WrittenAt, WroteAt, rest_waits, ticks_wrote, written_same}
@@ -286,3 +290,26 @@ module _ (offers : OffersLeave) (takes : TakesLower) (less : TellsLess) (law : C
 
   pub bounded : SessionsBounded
   bounded = every (λ n. IsBounded) (λ n x p g w. record { rest = p.rest; replies = p.replies })
+
+  -- the end of a circuit isn't its user's
+  all_at : (P : Session → Type 0) (ss : List Session) → ((nth : ℕ) (x : Session) → slice_get ss nth ≡ Some x → P x) → AllByRecursion P ss
+  all_at P [] f = tt
+  all_at P (x ∷ ss) f = (f zero x refl, all_at P ss (λ nth y e. f (suc nth) y e))
+
+  is_apart : (n : State) → Fine n → (nth : ℕ) (x : Session) → session_at nth n ≡ Some x → IsApart n x
+  is_apart n f nth x e c h = by x.user refl
+    where
+      by : (u : User) → x.user ≡ u → is_at_end c.id u ≡ false
+      by (AtEnd id) g = other_number id c.id (λ same. ends_differ id n nth x f e g c h (sym same))
+      by (AtLink peer) g = refl
+
+  pub apart : SessionsApart
+  apart hosts c inputs call calls =
+      let n : State = (after_all inputs (node_of hosts c)).station in
+      all_at (IsApart n) n.sessions (λ nth x e. is_apart n (reached inputs (node_of hosts c) calls (starts hosts c call)).ready.0 nth x e)
+
+  pub numbered : EndsAreNumbered
+  numbered hosts c inputs call calls =
+      let n : State = (after_all inputs (node_of hosts c)).station in
+      let f = (reached inputs (node_of hosts c) calls (starts hosts c call)).ready.0 in
+      (numbers_of n.set.set.number n.set.set.ends f.0.below, apart_of n.set.set.ends f.0.once)

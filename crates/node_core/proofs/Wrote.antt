@@ -153,7 +153,7 @@ written_later old new k o [] e = tt
 written_later old new k o (x ∷ ss) e = (record { all = at_stage old new x.bridge x.bridge x.stage refl refl (λ c ms gs h w. k c.id ms gs o w) e.0.all }, written_later old new k o ss e.1)
 
 -- as there is a call of another end
-nat_apart : (a b : ℕ) → nat_eq a b ≡ false → nat_eq b a ≡ false
+pub nat_apart : (a b : ℕ) → nat_eq a b ≡ false → nat_eq b a ≡ false
 nat_apart a b e = by (nat_eq b a) refl
   where
     by : (c : Bool) → nat_eq b a ≡ c → nat_eq b a ≡ false
@@ -234,7 +234,7 @@ written_new set user = record { all = tt }
 -- ---- the session whose circuit it is
 
 -- a text was written to the circuit of the session in that place
-its_write : (set : SetState) (text : List ℕ) (now id : ℕ) (ms gs : List (List ℕ)) → answers.write_answer (s.end_of id set.ends) text ≡ Ok tt → WroteAt set id ms gs
+pub its_write : (set : SetState) (text : List ℕ) (now id : ℕ) (ms gs : List (List ℕ)) → answers.write_answer (s.end_of id set.ends) text ≡ Ok tt → WroteAt set id ms gs
     → WroteAt (s.set_step set (Calls id (Writes text) now)).set id (ms ++ text ∷ []) gs
 its_write set text now id ms gs ok w = by (s.end_of id set.ends) refl ok
   where
@@ -277,7 +277,7 @@ first_of k gs received (many, (more, e)) some = by more (rest_is k gs received m
     by [] f g = let none = ap (λ (ys : List (List ℕ)). length ys) f in absurd (omega (arith, none, some))
     by (x ∷ xs) f g = rw f (omega (arith, many, length-append gs (x ∷ [])), (xs, g ∙ sym (append_assoc gs (x ∷ []) xs)))
 
-its_take : (set : SetState) (now id : ℕ) (ms gs : List (List ℕ)) → users.has_taken (answers.take_answer (s.end_of id set.ends)) ≡ true → WroteAt set id ms gs
+pub its_take : (set : SetState) (now id : ℕ) (ms gs : List (List ℕ)) → users.has_taken (answers.take_answer (s.end_of id set.ends)) ≡ true → WroteAt set id ms gs
     → WroteAt (s.set_step set (Calls id Takes now)).set id ms (gs ++ answers.message_at [] (s.end_of id set.ends) ∷ [])
 its_take set now id ms gs ok w = by (s.end_of id set.ends) refl ok
   where

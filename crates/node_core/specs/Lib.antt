@@ -12,6 +12,7 @@ pub mod Taking
 pub mod Runs
 pub mod Fetching
 pub mod Bridged
+pub mod Deeds
 pub mod Bounds
 pub mod Sound
 pub mod Carried

@@ -3,6 +3,7 @@ ghost use Rattle.circuit_table.specs.Pumps.{TellsLess};
 ghost use Rattle.link_table.specs.Kept.{CountsPayloads, OffersLeave, TakesLower};
 ghost use Rattle.node_core.specs.Sound.{KeepsItsShare};
 ghost use Rattle.node_core.specs.Bridged.{SessionsBounded, SessionsBridged, SessionsClosedLast, SessionsReadTheirEnds, SessionsWriteTheirEnds, UsersAreFew};
+ghost use Rattle.node_core.specs.Deeds.{EndsAreNumbered, EndsShowDeeds, EndsShowLists, ListsStayElsewhere, SessionsApart, SessionsNoteDeeds};
 ghost use Rattle.node_core.specs.Carried.{ActsCarry, BytesCarry, CarriedFurther, TicksCarry};
 ghost use Rattle.node_core.specs.Fetching.{FetchesAllEntries, FetchesAllFrames, FramesInOrder};
 ghost use Rattle.node_core.specs.Runs.{ActsRun, BytesRun, InputsAreSteps, TicksRun};
@@ -85,6 +86,26 @@ pub fn bridged()
     ensures read { SessionsReadTheirEnds }
     ensures closed { SessionsClosedLast }
     ensures bounded { SessionsBounded }
+{
+    parts();
+    link_table::laws::carried();
+    ax_address::laws::call_texts();
+}
+
+/// As a session with a circuit is served, in each state: the list of what was given to its user grows by just the messages of the circuit
+/// that were written to the user's end or sent over the user's link; and while the circuit stands, the list of what was taken from the user
+/// grows by just the texts that were taken of what that end received or that link brought. Nothing is done then but at these and at the
+/// circuit's end, which isn't the user's; and to each end just what was written by that is written more, and just what was taken is taken
+/// more. So of a user at an end both lists grow as that end shows. So it is where ends are numbered, and a circuit's end isn't its user's:
+/// that holds of every node with a call that inputs may have led to. All else that an input is made of leaves these lists, but that they
+/// begin anew as a circuit is asked for, and that of texts once more as it stands.
+pub fn deeds_noted()
+    ensures served { SessionsNoteDeeds }
+    ensures ends { EndsShowDeeds }
+    ensures lists { EndsShowLists }
+    ensures elsewhere { ListsStayElsewhere }
+    ensures apart { SessionsApart }
+    ensures numbered { EndsAreNumbered }
 {
     parts();
     link_table::laws::carried();

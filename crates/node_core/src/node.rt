@@ -77,6 +77,9 @@ impl Model for Node {
 
     ghost view = { λ n. view_of n.deframer n.station n.spent };
 
+    // It keeps that and nothing else.
+    ghost inverse = { λ k. record { deframer = k.deframer; station = k.station; spent = k.spent } };
+
     ghost invariant = { λ n. n.spent ≡ false → IsSound (view_of n.deframer n.station n.spent) };
 }
 
