@@ -1,5 +1,5 @@
-# Sourced, with `top` naming the repository: what stands in out/, and whether it is of today's sources. There are two programs, which
-# are built together: wursthatch, and wursthatch-look of the crate wursthatch_look.
+# Sourced by both launchers, ./build, the gate and packaging/static, with `top` naming the repository: what stands in out/, and whether it is
+# of today's sources. There are two programs, which are built together: wursthatch, and wursthatch-look of the crate wursthatch_look.
 # shellcheck shell=sh disable=SC2154,SC3013 # (who sources it sets what isn't set here; -nt is no standard, but in each shell)
 program=$top/out/wursthatch
 
