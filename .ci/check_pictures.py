@@ -17,7 +17,7 @@ import xml.etree.ElementTree as ET
 
 sys.dont_write_bytecode = True
 TOP = os.path.dirname(os.path.dirname(os.path.realpath(__file__)))
-sys.path.insert(0, TOP)
+sys.path.insert(0, os.path.join(TOP, "tools"))
 
 from drawing.main import TOO_LATE, trace_of       # noqa: E402
 from drawing.pages import page                    # noqa: E402
