@@ -82,7 +82,7 @@ impl<M: Modulus> Machine<M> {
         self.answer_text(i_frame.pf);
     }
 
-    /// Without single payloads being asked for, only the next one is taken.
+    /// Without SREJ: the payload is taken in where it is the next one, and dropped where it isn't.
     fn text_in_turn(&mut self, i_frame: &IFrame<'_>)
         requires room { length self.old.outs.items + 1 ≤ 2 * self.old.window + 4 }
         requires busy { length self.old.inbox.items < 64 }

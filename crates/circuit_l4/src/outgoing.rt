@@ -147,7 +147,7 @@ impl Outgoing {
     }
 }
 
-/// Of so many fragments acknowledged, forgets the messages of which all are.
+/// Forgets each message at the front whose fragments are all among the `done` that are acknowledged, and takes these off `done`.
 fn forget(queue: &mut Messages, done: &mut u64)
     ensures forgets { Forgets queue.old.messages done.old queue.new.messages done.new }
     ensures room { queue.new.room ≡ queue.old.room }

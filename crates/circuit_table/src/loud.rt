@@ -19,7 +19,8 @@ pub(crate) enum Loud {
 }
 
 impl Loud {
-    /// Which ends may have something to tell once the one with this number has come to this, where these may whatever it comes to.
+    /// Which ends may have something to tell, now that the end with this number is as given. `self` says so whatever that end has come to,
+    /// so it may count it in for nothing.
     pub(crate) fn after(self, id: u64, holder: &Holder) -> Loud
         ensures { ComesTo id self holder.now result }
     {

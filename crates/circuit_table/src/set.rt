@@ -378,7 +378,7 @@ impl<C: Carrier> CircuitSet<C> {
         &self.router
     }
 
-    /// The same, to be changed: what is left of it is the set's router then.
+    /// The router, lent to be changed: as it is given back it is the set's router from then on.
     pub fn router_mut(&mut self) -> &mut Router<C>
         ensures value { result.now ≡ self.old.router }
         ensures* writes_back { sem 𝓛 (Lends (the_row C.row) (router_row C.row) self.entry result

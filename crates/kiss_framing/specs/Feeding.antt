@@ -24,6 +24,6 @@ TakesIn deframer bytes =
     follows_so the_row the_row deframer.ghost_name none (λ _ _. ⊤)
     (λ later. (stream : List ℕ) → StandsFor deframer.now stream → StandsFor later (stream ++ bytes))
 
--- no fewer than so many of these bytes bring the stream an item
+-- fewer than `count` of these bytes complete no item behind this stream
 abbrev pub IsQuietBefore : ℕ → List ℕ → List ℕ → Type 0
 IsQuietBefore count stream bytes = (fewer : ℕ) → fewer < count → items (stream ++ take fewer bytes) ≡ items stream

@@ -213,7 +213,7 @@ impl<C: Carrier> Router<C> {
         &self.table
     }
 
-    /// The same, to be changed: what is left of it is the router's table then.
+    /// The table, lent to be changed: as it is given back it is the router's table from then on.
     pub fn table_mut(&mut self) -> &mut RouteTable
         ensures value { result.now ≡ self.old.table }
         ensures* writes_back { sem 𝓛
@@ -229,7 +229,7 @@ impl<C: Carrier> Router<C> {
         &self.carrier
     }
 
-    /// The same, to be changed: what is left of it is the router's carrier then.
+    /// The carrier, lent to be changed: as it is given back it is the router's carrier from then on.
     pub fn carrier_mut(&mut self) -> &mut C
         ensures value { result.now ≡ self.old.carrier }
         ensures* writes_back { sem 𝓛

@@ -32,7 +32,7 @@ use Rattle.net_replay.specs.ToldLines.{entry_text, last_texts, mail_line}
 use Rattle.net_replay.specs.declared.outcome.Outcome.{Outcome}
 use Rattle.net_replay.specs.declared.outcome.Outcome.TheVariants as outcomes
 
--- a frame that no octets are at fault of, as in the air none are
+-- of octets that spell a frame; all that are in the air do
 abbrev pub text_of_frame : Result Frame FrameRefusal → List ℕ
 text_of_frame (Ok f) = frame_text f
 text_of_frame (Err e) = []

@@ -67,7 +67,7 @@ impl Air {
         &self.frames
     }
 
-    /// Why the frame of that number, from 1, which has to be settled or unsettled, isn't so.
+    /// Why there is no frame of that number, from 1, that is settled (or unsettled, where `settled` is false); None where there is one.
     pub fn lost_fault(&self, number: u32, settled: bool) -> Option<LineRefusal>
         ensures { result ≡ lost_fault settled (frame_of self.now number) }
     {

@@ -27,8 +27,8 @@ pub struct LateCause {
     pub sign: Sign,
 }
 
-/// By what it shows that something in the trace came too late: an event at the line of the verdict, wherever the verdict is that something did, and
-/// None where nothing did.
+/// The first event that came too late, and how that shows. It is of the line that the verdict names; None exactly where the verdict is
+/// that nothing came too late.
 pub fn late_cause(alloc: Global, trace: &Trace) -> Result<Option<LateCause>, NoMemory>
     ensures { IfOk result (λ cause. (plan : Plan) (w : World) (late : Option Late)
         → allowance_in trace.now ≡ allowance_of plan → IsTraceOf (left_of trace.now) w

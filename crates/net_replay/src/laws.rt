@@ -89,12 +89,12 @@ pub fn hops_take_one()
     ensures { HopsTakeOne }
 {}
 
-/// In a network whose nodes all have one modulus, whatever is lost, repeated, delayed or reordered and whichever node starts again: each datagram
-/// that reaches its node, so that the circuits there are handed it, was sent before by the node that is its origin, by an end of it or by its set as
-/// a refusal; so was each that an end heeds, as the network's events tell, and that by an end. By frames in the air it came over so many hops, each a node that passed it
-/// on with one less to live, and all else as it was: these and its time to live make up the one that it was sent with. And one that an end heeds is
-/// from the node of its partner, and names that end's pair. In the run of the nodes' circuits that this is said of, a node starts again only where a
-/// line says so.
+/// In a network whose nodes all have one modulus, whatever is lost, repeated, delayed or reordered and whichever node starts again: each
+/// datagram that reaches its node, so that the circuits there are handed it, was sent before by the node that is its origin, by an end of
+/// it or by its set as a refusal; so was each that an end heeds, as the network's events tell, and that by an end. Frames in the air
+/// brought it, over nodes of which each took one from its time to live, changed nothing else and passed it on; its time to live and the
+/// number of these nodes add up to the time to live with which it was sent. And one that an end heeds is from the node of its partner, and
+/// names that end's pair. In the run of the nodes' circuits that this is said of, a node starts again only where a line says so.
 pub fn datagrams_sent()
     ensures { DatagramsSent }
 {

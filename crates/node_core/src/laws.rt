@@ -31,9 +31,10 @@ pub fn inputs_are_circuit_runs()
     ax_address::laws::call_texts();
 }
 
-/// Of a node in a network whose links are of one modulus: each input of it is inputs of its circuits as above. Each datagram that is handed up to
-/// them was carried to it by a frame in the air. Each that its links then hold and put out as NET/ROM's it has sent; or it was carried to it and goes
-/// on with one less to live, and else as it came; or it is repeated. So it is where what comes was in the air.
+/// Of a node in a network whose links are of one modulus, where all that comes was in the air: each input of it is inputs of its circuits
+/// as above. Each datagram that is handed up to them was carried to the node by a frame in the air. Each that its links then hold, and
+/// each that it puts out with NET/ROM's PID, is one that the node itself has sent; or one that was carried to it, which it passes on with
+/// one less to live and else as it came; or one in the air that it repeats.
 pub fn datagrams_are_carried()
     ensures bytes { BytesCarry }
     ensures ticks { TicksCarry }
