@@ -1,4 +1,4 @@
-//! The kinds of frames, with their numbers and their P/F bit (AX.25 2.2, sections 4.2 and 4.3).
+//! The kinds of frames, with their numbers and their P/F bit (AX.25 2.2, sections 4.2 and 4.3). Called by `read`, `show` and `write`.
 ghost use Rattle.std.specs.Prelude.{◌≡◌};
 ghost use Rattle.ax_frame.specs.Controls as controls;
 

@@ -1,4 +1,4 @@
-//! What a frame carries for a forwarder.
+//! What a frame carries for a forwarder. Called by `forwarder` and `packets`.
 ghost use Rattle.std.specs.Prelude.{◌≡◌};
 ghost use Rattle.ax_frame.specs.Frames.{view as frame_of};
 ghost use Rattle.ax_ip.specs.Machine as contents;

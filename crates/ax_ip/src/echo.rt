@@ -1,4 +1,4 @@
-//! Echo requests and their replies (RFC 792, "Echo or Echo Reply Message").
+//! Echo requests and their replies (RFC 792, "Echo or Echo Reply Message"). Called by `packets`.
 ghost use Rattle.std.specs.Prelude.{◌≡◌, ◌≤◌, ◌++◌, length};
 ghost use Rattle.ax_ip.specs.Packets.{PacketHead};
 ghost use Rattle.ax_ip.specs.Machine as echoes;

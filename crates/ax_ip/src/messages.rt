@@ -1,4 +1,4 @@
-//! Messages of ARP at a forwarder (RFC 826, "Packet Reception").
+//! Messages of ARP at a forwarder (RFC 826, "Packet Reception"). Called by `forwarder` and `packets`.
 ghost use Rattle.std.specs.Prelude.{◌≡◌, None};
 ghost use Rattle.ax_ip.specs.Arps as arps;
 ghost use Rattle.ax_ip.specs.Machine as machine;

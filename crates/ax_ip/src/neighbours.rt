@@ -1,4 +1,4 @@
-//! The neighbours that a forwarder knows (RFC 826, "translation table").
+//! The neighbours that a forwarder knows (RFC 826, "translation table"). Called by `messages` and `packets`.
 ghost use Rattle.std.specs.Prelude.{◌≡◌, ◌<◌, ◌==◌, length, position, IfSome};
 ghost use Rattle.ax_ip.specs.Machine as caches;
 

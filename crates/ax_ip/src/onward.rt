@@ -1,4 +1,4 @@
-//! A packet on its way: its time to live is one less, and its checksum follows (RFC 791, section 3.2).
+//! A packet on its way: its time to live is one less, and its checksum follows (RFC 791, section 3.2). Called by `echo` and `packets`.
 ghost use Rattle.std.specs.Prelude.{◌≡◌, ◌+◌, ◌%◌, ◌<◌, ◌≤◌, ◌++◌, length};
 ghost use Rattle.ax_ip.specs.Packets.{PacketHead};
 ghost use Rattle.ax_ip.specs.Packets as sums;

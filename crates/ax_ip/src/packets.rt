@@ -1,4 +1,4 @@
-//! Packets at a forwarder (RFC 791, section 2.4).
+//! Packets at a forwarder (RFC 791, section 2.4). Called by `forwarder`.
 ghost use Rattle.std.specs.Prelude.{◌≡◌, ◌<◌, ◌≤◌, length, None};
 ghost use Rattle.ax_ip.specs.Machine as machine;
 ghost use Rattle.ax_ip.specs.Packets as packets;

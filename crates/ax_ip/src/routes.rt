@@ -1,4 +1,4 @@
-//! The routes of a forwarder.
+//! The routes of a forwarder. Called by `forwarder` and `packets`.
 ghost use Rattle.std.specs.Prelude.{◌≡◌, ◌≤◌};
 ghost use Rattle.ax_ip.specs.Routes as spec;
 

@@ -1,4 +1,4 @@
-//! The checksum of a header and of a message of ICMP (RFC 791, section 3.1; RFC 1071).
+//! The checksum of a header and of a message of ICMP (RFC 791, section 3.1; RFC 1071). Called by `echo`, `onward` and `packet`.
 ghost use Rattle.std.specs.Prelude.{◌≡◌, ◌+◌, ◌-◌, ◌*◌, ◌/◌, ◌%◌, ◌<◌, ◌≤◌, length};
 ghost use Rattle.ax_ip.specs.Packets as sums;
 

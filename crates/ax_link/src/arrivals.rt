@@ -1,4 +1,4 @@
-//! What a link does with a frame of the other station (AX.25 2.2, sections 6.3 and 6.4).
+//! What a link does with a frame of the other station (AX.25 2.2, sections 6.3 and 6.4). Called by `link`.
 ghost use Rattle.std.specs.Prelude.{◌≡◌, ℕ, Bool, List, ◌+◌, ◌-◌, ◌*◌, ◌≤◌, ◌<◌, ◌++◌, ◌∷◌, [], ◌&&◌, not, nat_eq, nat_le, length, true, false, None, Some, IfSome};
 
 use crate::frame_in::FrameIn;

@@ -1,4 +1,4 @@
-//! What a link does for its user: set-up, sending, closing, taking.
+//! What a link does for its user: set-up, sending, closing, taking. Called by `link`.
 ghost use Rattle.std.specs.Prelude.{◌≡◌, ℕ, List, ◌+◌, ◌*◌, ◌≤◌, ◌<◌, ◌&&◌, [], nat_le, length, slice_get, false, None, OnOk, OnErr, IfOk};
 ghost use Rattle.radio_base.specs.declared.modulus.TheConstants.{COUNT_MAX};
 ghost use Rattle.ax_link.specs.Standing.{IsDrained};

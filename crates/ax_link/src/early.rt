@@ -1,4 +1,4 @@
-//! Payloads that came before their turn (AX.25 2.2, section 6.4.4.2).
+//! Payloads that came before their turn (AX.25 2.2, section 6.4.4.2). Called by `calls`, `machine` and `texts`.
 ghost use Rattle.std.specs.Prelude.{◌≡◌, ℕ, List, ◌+◌, ◌-◌, ◌*◌, ◌%◌, ◌≤◌, ◌<◌, ◌++◌, ◌∷◌, [], length, replicate, slice_get, false, None, IfSome};
 ghost use Rattle.circular_buffer.specs.Buffer.{buffer, keep_last};
 ghost use Rattle.radio_base.specs.declared.modulus.TheConstants.{COUNT_MAX};

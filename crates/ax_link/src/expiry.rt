@@ -1,4 +1,4 @@
-//! What a link does when T1 or T3 has come (AX.25 2.2, section 6.7).
+//! What a link does when T1 or T3 has come (AX.25 2.2, section 6.7). Called by `link`.
 ghost use Rattle.std.specs.Prelude.{◌≡◌, ℕ, ◌+◌, ◌*◌, ◌≤◌, ◌<◌, [], length, None};
 
 use crate::machine::Machine;

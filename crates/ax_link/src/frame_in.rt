@@ -1,4 +1,4 @@
-//! A frame as it comes from the other station.
+//! A frame as it comes from the other station. Called by `arrivals` and `link`.
 ghost use Rattle.std.specs.Prelude.{◌≡◌, true, false, IfSome};
 ghost use Rattle.std.specs.Option.{option_map};
 ghost use Rattle.ax_link.specs.Kinds.{frame_in};

@@ -1,4 +1,4 @@
-//! What a frame is to a link: its kind, with the two set-up commands told apart by the link's modulus.
+//! What a frame is to a link: its kind, with the two set-up commands told apart by the link's modulus. Called by `frame_in`.
 ghost use Rattle.std.specs.Prelude.{◌≡◌};
 ghost use Rattle.ax_link.specs.Kinds.{kind_of, set_up_kind};
 

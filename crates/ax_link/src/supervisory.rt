@@ -1,4 +1,4 @@
-//! What an RR, RNR or REJ says (AX.25 2.2, section 4.3.2).
+//! What an RR, RNR or REJ says (AX.25 2.2, section 4.3.2). Called by `arrivals`.
 ghost use Rattle.std.specs.Prelude.{◌≡◌, ◌&&◌, not};
 
 /// An RR, RNR or REJ, but for its N(R).

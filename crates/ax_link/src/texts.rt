@@ -1,4 +1,4 @@
-//! What a link does with the payload of an I frame (AX.25 2.2, section 6.4.2).
+//! What a link does with the payload of an I frame (AX.25 2.2, section 6.4.2). Called by `arrivals`.
 ghost use Rattle.std.specs.Prelude.{◌≡◌, ℕ, Bool, List, ◌+◌, ◌-◌, ◌*◌, ◌≤◌, ◌<◌, ◌++◌, ◌∷◌, [], ◌&&◌, not, nat_eq, nat_le, length, true, false, None, Some, IfSome};
 ghost use Rattle.radio_base.specs.declared.modulus.TheConstants.{COUNT_MAX};
 

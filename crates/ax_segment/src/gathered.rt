@@ -1,4 +1,4 @@
-//! The bytes of a message that is being joined.
+//! The bytes of a message that is being joined. Called by `joiner`.
 ghost use Rattle.std.specs.Prelude.{◌≡◌, ◌<◌, ◌≤◌, [], OnErr, IfOk};
 ghost use Rattle.ax_segment.specs.Joining.{Nothing, join_step, begun_by, continued_by, counted};
 ghost use Rattle.ax_segment.specs.Pushing.{answer_of};

@@ -1,4 +1,4 @@
-//! What a segment would make whole, without taking it in.
+//! What a segment would make whole, without taking it in. Called by `joiner`.
 ghost use Rattle.std.specs.Prelude.{◌≡◌, ◌<◌};
 ghost use Rattle.ax_segment.specs.Gathering.{held_at};
 ghost use Rattle.ax_segment.specs.Joining.{join_step, begun_by, continued_by, whole_of};

@@ -1,4 +1,4 @@
-//! What an end does with a transport of the other end (NET/ROM, Appendix B, level 4).
+//! What an end does with a transport of the other end (NET/ROM, Appendix B, level 4). Called by `end`.
 ghost use Rattle.std.specs.Prelude.{◌≡◌, ◌*◌, ◌≤◌, [], None};
 ghost use Rattle.circuit_l4.specs.Table as table;
 

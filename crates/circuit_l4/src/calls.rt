@@ -1,4 +1,4 @@
-//! What an end does for its user: opening, writing, closing, taking.
+//! What an end does for its user: opening, writing, closing, taking. Called by `end`.
 ghost use Rattle.std.specs.Prelude.{◌≡◌, ◌+◌, ◌*◌, ◌≤◌, ◌<◌, [], ◌&&◌, nat_lt, length, None, OnOk, OnErr, IfOk};
 
 use crate::beginning::Beginning;

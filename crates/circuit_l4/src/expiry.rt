@@ -1,4 +1,4 @@
-//! What an end does when time has passed.
+//! What an end does when time has passed. Called by `end`.
 ghost use Rattle.std.specs.Prelude.{◌≡◌, ◌+◌, ◌*◌, ◌≤◌, ◌<◌, [], length, None};
 
 use crate::machine::Machine;

@@ -1,4 +1,4 @@
-//! The receiving half of an end: what came and wasn't taken.
+//! The receiving half of an end: what came and wasn't taken. Called by `calls`, `end`, `moves` and `texts`.
 ghost use Rattle.std.specs.Prelude.{◌≡◌, ◌+◌, ◌≤◌, ◌↔◌, [], length, nat_lt, replicate, IfOk, IfSome, IsTrue, None};
 ghost use Rattle.circular_buffer.specs.Buffer.{buffer};
 ghost use Rattle.circuit_reassembly.specs.Fragments.{gather_step};

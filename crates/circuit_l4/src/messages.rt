@@ -1,4 +1,4 @@
-//! Messages that wait to be taken, in rings.
+//! Messages that wait to be taken, in rings. Called by `incoming` and `outgoing`.
 ghost use Rattle.std.specs.Prelude.{◌≡◌, ◌+◌, ◌≤◌, ◌<◌, ◌++◌, ◌∷◌, [], length, take, drop, slice_get, nat_lt, IfOk};
 ghost use Rattle.std.specs.Option.{option_map};
 ghost use Rattle.circuit_l4.specs.Queued.{IsQueue, cut};

@@ -1,4 +1,4 @@
-//! The moves of which an end's steps are made: Fill, Finish, Again and the rest.
+//! The moves of which an end's steps are made: Fill, Finish, Again and the rest. Called by `arrivals`, `calls`, `expiry` and `texts`.
 ghost use Rattle.std.specs.Prelude.{◌≡◌, ℕ, ◌+◌, ◌*◌, ◌≤◌, ◌<◌, length};
 ghost use Rattle.radio_base.specs.declared.modulus.TheConstants.{COUNT_MAX};
 

@@ -1,4 +1,4 @@
-//! What waits to be put out: kinds, numbers and flags, without the text.
+//! What waits to be put out: kinds, numbers and flags, without the text. Called by `machine`.
 ghost use Rattle.std.specs.Prelude.{◌≡◌, ◌-◌, Some};
 ghost use Rattle.circuit_l4.specs.Outputs.{fragment_from, out_of, with_text};
 

@@ -1,4 +1,4 @@
-//! A fragment with its flag.
+//! A fragment with its flag. Called by `arrivals`, `incoming` and `outgoing`.
 ghost use Rattle.std.specs.Prelude.{◌≡◌, ◌≤◌, length};
 
 use arrayvec::ArrayVec;

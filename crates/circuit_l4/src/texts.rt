@@ -1,4 +1,4 @@
-//! What an end does with the text of an Info.
+//! What an end does with the text of an Info. Called by `arrivals`.
 ghost use Rattle.std.specs.Prelude.{◌≡◌, ℕ, suc, ◌+◌, ◌-◌, ◌*◌, ◌≤◌, [], length, None, IfSome};
 
 use crate::info::Info;

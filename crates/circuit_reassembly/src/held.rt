@@ -1,4 +1,4 @@
-//! The bytes of a message that is being gathered.
+//! The bytes of a message that is being gathered. Called by `gather`.
 ghost use Rattle.std.specs.Prelude.{◌≡◌, ◌+◌, ◌≤◌, ◌++◌, [], length, IfOk, vec_len, vec_capacity, false};
 ghost use Rattle.circuit_reassembly.specs.Fragments.{gather_step};
 ghost use Rattle.circuit_reassembly.specs.Holding.{held_at, answer_at, answered, gathering};

@@ -1,4 +1,4 @@
-//! Ends among those that a node holds.
+//! Ends among those that a node holds. Called by `loud` and `receiving`.
 ghost use Rattle.std.specs.Prelude.{◌≡◌, None};
 ghost use Rattle.circuit_table.specs.Sets as sets;
 ghost use Rattle.circuit_table.specs.Standing.{FirstFit, FirstLoud, Rests};

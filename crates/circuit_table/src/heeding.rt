@@ -1,4 +1,4 @@
-//! What an end takes in.
+//! What an end takes in. Called by `receiving`.
 ghost use Rattle.std.specs.Prelude.{◌≡◌};
 ghost use Rattle.circuit_table.specs.Sets as spec;
 

@@ -1,4 +1,4 @@
-//! The ends that a node holds, by number.
+//! The ends that a node holds, by number. Called by `pump`, `receiving` and `set`.
 ghost use Rattle.std.specs.Prelude.{◌≡◌, ◌≤◌, ◌<◌, true, false, List, [], Some, None, length, nat_eq, is_some, if◌then◌else◌, OnOk, IfOk, OnErr, IsErrOf};
 ghost use Rattle.std.specs.Map.{lookup, remove_entry};
 ghost use Rattle.radio_base.specs.declared.modulus.TheConstants.{COUNT_MAX};

@@ -1,4 +1,4 @@
-//! An end that a node holds.
+//! An end that a node holds. Called by `finding`, `held_ends`, `loud` and `receiving`.
 ghost use Rattle.std.specs.Prelude.{◌≡◌, ◌+◌, ◌≤◌, false, ◌||◌, ◌&&◌, not, true, Some, None, ℕ, List, nat_lt, length, is_some, IfSome};
 ghost use Rattle.ax_address.specs.Callsign.{Callsign, same_call};
 ghost use Rattle.circuit_l4.specs.State.{State, inbox};

@@ -1,5 +1,5 @@
 //! Which of the ends that a node holds may have something to tell. Of many mostly one has, so that one is remembered, and the others
-//! aren't looked at.
+//! aren't looked at. Called by `held_ends`, `pump` and `receiving`.
 ghost use Rattle.std.specs.Prelude.{◌≡◌, None};
 ghost use Rattle.circuit_table.specs.declared.loud.Loud.TheVariants as loud;
 ghost use Rattle.circuit_table.specs.Standing.{FirstLoud, Rests, SameNode};

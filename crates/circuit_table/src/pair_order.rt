@@ -1,4 +1,4 @@
-//! The pairs by which a node names its ends (this project's profile).
+//! The pairs by which a node names its ends (this project's profile). Called by `held_ends`.
 ghost use Rattle.std.specs.Prelude.{◌≡◌};
 ghost use Rattle.circuit_table.specs.Pairs as order;
 ghost use Rattle.circuit_table.specs.Standing.{pairs_of};

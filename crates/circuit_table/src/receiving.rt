@@ -1,4 +1,4 @@
-//! What comes to the ends of a node: requests, and transports for the ends that they name.
+//! What comes to the ends of a node: requests, and transports for the ends that they name. Called by `pump`.
 ghost use Rattle.std.specs.Prelude.{◌≡◌, ◌≤◌, ◌<◌, true, false, [], Some, None, length, nat_eq, IfOk, OnOk};
 ghost use Rattle.std.specs.Map.{lookup};
 ghost use Rattle.radio_base.specs.declared.modulus.TheConstants.{COUNT_MAX};

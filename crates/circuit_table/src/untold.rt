@@ -1,4 +1,4 @@
-//! What an end is to tell next.
+//! What an end is to tell next. Called by `held_ends`.
 ghost use Rattle.std.specs.Prelude.{◌≡◌};
 ghost use Rattle.circuit_table.specs.Standing as last;
 

@@ -1,4 +1,4 @@
-//! The book of what was told, by which each event is judged and in which it is noted.
+//! The book of what was told, by which each event is judged and in which it is noted. Called by `cause` and `verdict`.
 ghost use Rattle.std.specs.Prelude.{◌≡◌, ◌+◌, ◌&&◌, OnOk, IfOk, ℕ, List, Option, Some, None, []};
 ghost use Rattle.std.specs.Option.{option_copied};
 ghost use Rattle.l3_datagram.specs.Datagrams.{head_at};

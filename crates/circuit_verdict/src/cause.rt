@@ -1,4 +1,4 @@
-//! By what it shows that an event comes too late.
+//! By what it shows that an event comes too late. Called by `verdict`.
 ghost use Rattle.std.specs.Prelude.{◌≡◌, IfOk, List, Some};
 ghost use Rattle.std.specs.Option.{option_copied};
 ghost use Rattle.circuit_set.specs.Books as books;

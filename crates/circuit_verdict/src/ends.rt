@@ -1,4 +1,4 @@
-//! What is kept of the ends that were made: their partners, and which of them are still open.
+//! What is kept of the ends that were made: their partners, and which of them are still open. Called by `book` and `cause`.
 ghost use Rattle.std.specs.Prelude.{◌≡◌, ◌∷◌, ◌++◌, ◌&&◌, [], OnOk, ℕ, List, Option, Some, None, cond, nat_eq, slice_get};
 ghost use Rattle.indexmap.specs.IndexMap.{get};
 ghost use Rattle.ax_address.specs.Callsign.{Callsign, same_call};

@@ -1,4 +1,4 @@
-//! A list for each key.
+//! A list for each key. Called by `ends` and `sendings`.
 ghost use Rattle.std.specs.Prelude.{◌≡◌, ◌++◌, ◌∷◌, [], cond, OnOk, None};
 ghost use Rattle.indexmap.specs.IndexMap.{get};
 ghost use Rattle.circuit_verdict.specs.Lists.{list_in};

@@ -1,4 +1,4 @@
-//! Information messages, and by what each is found again.
+//! Information messages, and by what each is found again. Called by `sendings`.
 ghost use Rattle.std.specs.Prelude.{◌≡◌};
 
 use crate::names::Name;

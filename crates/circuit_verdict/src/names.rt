@@ -1,4 +1,4 @@
-//! Ends, by which what is noted of them is found again.
+//! Ends, by which what is noted of them is found again. Called by `book` and `ends`.
 ghost use Rattle.std.specs.Prelude.{◌≡◌};
 
 use std::marker::Model;

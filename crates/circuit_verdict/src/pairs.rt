@@ -1,4 +1,4 @@
-//! Pairs of ends, by which what is noted of an end is found again.
+//! Pairs of ends, by which what is noted of an end is found again. Called by `ends`.
 ghost use Rattle.std.specs.Prelude.{◌≡◌};
 
 use ax_address::Call;

@@ -1,4 +1,4 @@
-//! What is kept of the datagrams that ends have sent, and of the information messages that were heeded.
+//! What is kept of the datagrams that ends have sent, and of the information messages that were heeded. Called by `book` and `cause`.
 ghost use Rattle.std.specs.Prelude.{◌≡◌, ◌<◌, ◌≤◌, ◌+◌, ◌^◌, ◌∷◌, [], OnOk, IfOk, ℕ, suc, List, Option, Some, None, cond, length, filter, nat_lt, nat_eq, true, false, slice_index_or, ◌&&◌, ◌||◌};
 ghost use Rattle.std.specs.BTreeMap as ordered;
 ghost use Rattle.indexmap.specs.IndexMap.{get};

@@ -1,4 +1,4 @@
-//! What takes a stream in, as a trait.
+//! What takes a stream in, as a trait. Called by `streams`.
 ghost use Rattle.std.specs.Prelude.{◌≡◌, ◌++◌, ◌∷◌, [], List, ℕ, OnOk};
 ghost use Rattle.cmd_streams.specs.Streams.{Read, read_of};
 

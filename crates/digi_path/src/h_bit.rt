@@ -1,4 +1,4 @@
-//! A repeater's H bit (AX.25 2.2, section 3.12).
+//! A repeater's H bit (AX.25 2.2, section 3.12). Called by `digi_step` and `reversal`.
 ghost use Rattle.std.specs.Prelude.{◌≡◌};
 
 use ax_address::Address;

@@ -1,4 +1,4 @@
-//! What a frame carries, by its PID (AX.25 2.2, section 3.4).
+//! What a frame carries, by its PID (AX.25 2.2, section 3.4). Called by `listener`.
 ghost use Rattle.std.specs.Prelude.{◌≡◌, ◌++◌, OnOk, IfOk, string_bytes};
 ghost use Rattle.ax_address.specs.Callsign.{same_call};
 ghost use Rattle.ax_frame.specs.Frames.{view};

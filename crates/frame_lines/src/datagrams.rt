@@ -1,4 +1,4 @@
-//! The lines of a datagram.
+//! The lines of a datagram. Called by `contents`.
 ghost use Rattle.std.specs.Prelude.{◌≡◌, ◌++◌, OnOk, IfOk, string_bytes};
 ghost use Rattle.frame_lines.specs.DatagramLines as lines;
 

@@ -1,4 +1,4 @@
-//! The lines of a NODES broadcast.
+//! The lines of a NODES broadcast. Called by `contents`.
 ghost use Rattle.std.specs.Prelude.{◌≡◌, ◌++◌, flat_map, length, OnOk, IfOk, string_bytes};
 ghost use Rattle.nodes_broadcast.specs.Nodes.{view};
 ghost use Rattle.frame_lines.specs.NodesLines as lines;

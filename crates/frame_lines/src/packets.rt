@@ -1,4 +1,4 @@
-//! The lines of a packet of IPv4 and of a message of ARP.
+//! The lines of a packet of IPv4 and of a message of ARP. Called by `contents`.
 ghost use Rattle.std.specs.Prelude.{◌≡◌, ◌++◌, OnOk, IfOk, string_bytes};
 ghost use Rattle.frame_lines.specs.PacketLines as lines;
 

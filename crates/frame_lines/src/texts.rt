@@ -1,4 +1,4 @@
-//! Text of users, in one line.
+//! Text of users, in one line. Called by `contents` and `transports`.
 ghost use Rattle.std.specs.Prelude.{◌≡◌, ◌<◌, ◌++◌, OnOk, IfOk, string_bytes};
 ghost use Rattle.frame_lines.specs.TextLines as lines;
 

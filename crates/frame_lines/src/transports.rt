@@ -1,4 +1,4 @@
-//! The line of a transport.
+//! The line of a transport. Called by `datagrams`.
 ghost use Rattle.std.specs.Prelude.{◌≡◌, ◌++◌, OnOk, IfOk, string_bytes};
 ghost use Rattle.circuit_l4.specs.declared.transport.Flags.{Flags};
 ghost use Rattle.frame_lines.specs.TransportLines as lines;

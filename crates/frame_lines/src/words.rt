@@ -1,4 +1,4 @@
-//! The words for why octets are none of what their place says that they are.
+//! The words for why octets are none of what their place says that they are. Called by `datagrams`, `nodes`, `packets` and `transports`.
 ghost use Rattle.std.specs.Prelude.{◌≡◌, IfOk, string_bytes};
 ghost use Rattle.frame_lines.specs.Words as words;
 

@@ -1,4 +1,4 @@
-//! What is held of a stream between two items.
+//! What is held of a stream between two items. Called by `deframer` and `enframing`.
 ghost use Rattle.std.specs.Prelude.{◌≡◌, ◌≢◌, ◌≤◌, ◌<◌, ◌++◌, ◌∷◌, [], length, take};
 ghost use Rattle.std.specs.List.{AllByRecursion};
 ghost use Rattle.kiss_framing.specs.Stream.{pending_of};

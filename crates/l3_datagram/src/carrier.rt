@@ -1,4 +1,4 @@
-//! What takes datagrams to neighbours, as a trait.
+//! What takes datagrams to neighbours, as a trait. Called by `router`.
 ghost use Rattle.std.specs.Prelude.{◌≡◌, ◌↔◌, true, List, [], ◌∷◌, ◌++◌, drop, slice_get, IfOk};
 ghost use Rattle.l3_datagram.specs.Datagrams.{CarrierCall, Parcel, Offer, Collect, Fail};
 ghost use Rattle.ax_address.specs.Callsign.{Callsign};

@@ -1,4 +1,4 @@
-//! What the node itself answers, where no link does (AX.25 2.2, section 6.3).
+//! What the node itself answers, where no link does (AX.25 2.2, section 6.3). Called by `held_links`.
 ghost use Rattle.std.specs.Prelude.{◌≡◌, ◌++◌, [], None, Some, false, map, OnOk};
 ghost use Rattle.ax_frame.specs.Frames.{HasParts, frame as whole, view};
 ghost use Rattle.link_table.specs.Calls.{back, refusal_of, source};

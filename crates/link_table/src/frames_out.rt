@@ -1,4 +1,4 @@
-//! The frames of a link go out (AX.25 2.2, section 3).
+//! The frames of a link go out (AX.25 2.2, section 3). Called by `link_of`.
 ghost use Rattle.std.specs.Prelude.{◌≡◌, ◌++◌, [], map, OnOk};
 ghost use Rattle.ax_frame.specs.Controls.{IsLinkModulus};
 ghost use Rattle.ax_link.specs.Bounds.{CanBeSent};

@@ -1,4 +1,4 @@
-//! Datagrams that are offered to the links of a node (NET/ROM, Appendix B).
+//! Datagrams that are offered to the links of a node (NET/ROM, Appendix B). Called by `table`.
 ghost use Rattle.std.specs.Prelude.{◌≡◌, ◌≤◌, ◌<◌, ℕ, None, Some, OnOk, IfOk, IsErrOf, if◌then◌else◌, length, is_some};
 ghost use Rattle.std.specs.Map.{lookup};
 ghost use Rattle.std.specs.Option.{unwrap_or};

@@ -1,4 +1,4 @@
-//! Sending a text over the link with a peer.
+//! Sending a text over the link with a peer. Called by `table`.
 ghost use Rattle.std.specs.Prelude.{◌≡◌, ◌≤◌, OnOk, length};
 ghost use Rattle.link_table.specs.Calls.{at_link};
 ghost use Rattle.link_table.specs.Texts.{most_text, send_text_of};

@@ -1,4 +1,5 @@
 //! Texts that go over a link, in pieces or in segments (the PIDs: AX.25 2.2, section 3.4; the pieces: this project's profile).
+//! Called by `offers` and `send_calls`.
 ghost use Rattle.std.specs.Prelude.{◌≡◌, ◌≤◌, ◌+◌, ◌/◌, List, ℕ, OnOk, length};
 ghost use Rattle.ax_link.specs.Standing.{IsDrained};
 ghost use Rattle.ax_link.specs.Table as table;

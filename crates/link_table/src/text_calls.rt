@@ -1,4 +1,4 @@
-//! Texts at the links of a node: where they wait, and taking them (the PIDs: AX.25 2.2, section 3.4).
+//! Texts at the links of a node: where they wait, and taking them (the PIDs: AX.25 2.2, section 3.4). Called by `looks` and `table`.
 ghost use Rattle.std.specs.Prelude.{◌≡◌, ◌<◌, ◌++◌, ◌∷◌, [], Some, OnErr, OnOk, if◌then◌else◌, is_some, length, slice_get, true};
 ghost use Rattle.link_table.specs.Standing.{text_in, text_keys};
 

@@ -1,4 +1,5 @@
 //! Texts that come over a link: which payloads are texts, and taking them (the PIDs: AX.25 2.2, section 3.4).
+//! Called by `text_calls` and `work`.
 ghost use Rattle.std.specs.Prelude.{◌≡◌, ◌≤◌, Some, OnErr, OnOk, IfOk, IsSomeAnd, is_some, length, true};
 ghost use Rattle.std.specs.Option.{ForSome};
 ghost use Rattle.ax_link.specs.Standing.{IsDrained};

@@ -1,4 +1,5 @@
 //! What comes of a step of a link: its frames are put out, its notices are told, and what it brought is taken.
+//! Called by `entry`, `held_links`, `sends` and `texts`.
 ghost use Rattle.std.specs.Prelude.{◌≡◌, ◌≤◌, ◌++◌, ◌∷◌, [], ℕ, List, None, Some, map, OnOk, slice_get, is_some, length};
 ghost use Rattle.radio_base.specs.declared.payload.Payload.{Payload};
 ghost use Rattle.std.specs.Option.{option_to_list};

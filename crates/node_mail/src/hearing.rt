@@ -1,4 +1,4 @@
-//! What becomes of a mail and of a receipt that are heard. Own profile.
+//! What becomes of a mail and of a receipt that are heard. Own profile. Called by `store`.
 ghost use Rattle.std.specs.Prelude.{◌≡◌, ◌≤◌, length, List, IfOk, OnErr};
 ghost use Rattle.node_mail.specs.Lists as lists;
 ghost use Rattle.node_mail.specs.Lists.{octets_in};

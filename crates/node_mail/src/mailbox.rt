@@ -1,4 +1,5 @@
 //! The mailbox of a node: the mails that are stored there, in the order of storing, found by their names. Own profile.
+//! Called by `hearing` and `store`.
 ghost use Rattle.std.specs.Prelude.{◌≡◌, ◌++◌, ◌∷◌, [], length, slice_get, OnOk, OnErr, false};
 ghost use Rattle.std.specs.Option.{option_copied};
 ghost use Rattle.node_mail.specs.Lists.{is_stored};

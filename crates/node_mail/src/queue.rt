@@ -1,4 +1,4 @@
-//! The queue of a node: the mails that were posted there and aren't settled, by number. Own profile.
+//! The queue of a node: the mails that were posted there and aren't settled, by number. Own profile. Called by `hearing` and `store`.
 ghost use Rattle.std.specs.Prelude.{◌≡◌, ◌+◌, ◌++◌, ◌∷◌, [], ℕ, length, slice_get, is_some, IfOk, OnOk, OnErr, true, false};
 ghost use Rattle.std.specs.Option.{option_map};
 ghost use Rattle.node_mail.specs.Lists.{is_queued_for, letter_of, new_letter, number_for, without, SpellsOffer, number_and_dest, octets_or};

@@ -1,4 +1,4 @@
-//! The places of queued mails, found by halves.
+//! The places of queued mails, found by binary search. Called by `queue`.
 ghost use Rattle.std.specs.Prelude.{◌≡◌, ◌<◌, ◌≤◌, ℕ, length, is_some, slice_index_or, IfSome, IfNone};
 ghost use Rattle.node_mail.specs.Lists.{is_queued_for};
 ghost use Rattle.node_mail.specs.Queues.{HasNone, Rises, letters};

@@ -1,4 +1,4 @@
-//! Messages about mail are read. Own profile.
+//! Messages about mail are read. Own profile. Called by `store`.
 ghost use Rattle.std.specs.Prelude.{◌≡◌, ◌≤◌, ◌∷◌, [], length, take, drop, IfSome};
 ghost use Rattle.std.specs.Int.{w64, from_be_bytes};
 ghost use Rattle.std.specs.Option.{option_map};

@@ -1,4 +1,4 @@
-//! Messages about mail are written. Own profile.
+//! Messages about mail are written. Own profile. Called by `hearing` and `queue`.
 ghost use Rattle.std.specs.Prelude.{◌≡◌};
 ghost use Rattle.node_mail.specs.Wires as wires;
 

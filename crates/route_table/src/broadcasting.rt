@@ -1,4 +1,4 @@
-//! The entries that a node broadcasts (NET/ROM, Appendix B).
+//! The entries that a node broadcasts (NET/ROM, Appendix B). Called by `table`.
 ghost use Rattle.std.specs.Prelude.{◌≡◌, ◌<◌, ◌≤◌, ◌++◌, List, Some, length, take, drop, filter_map, IfOk, OnOk};
 ghost use Rattle.std.specs.List.{cons_option};
 ghost use Rattle.ax_address.specs.declared.entry.Entry.{Entry};

@@ -1,4 +1,4 @@
-//! A broadcast's reports, taken in: those of pairs that have a row one by one, and all others in one pass.
+//! A broadcast's reports, taken in: those of pairs that have a row one by one, and all others in one pass. Called by `table`.
 ghost use Rattle.std.specs.Prelude.{◌≡◌, ◌≤◌, ◌<◌, ◌+◌, ◌∷◌, ◌++◌, List, take, drop, length, vec_len, vec_capacity, is_none, false, IfSome, IfNone, ◌-◌};
 ghost use Rattle.ax_address.specs.declared.entry.Entry.{Entry};
 ghost use Rattle.route_table.specs.Places as places;

@@ -1,4 +1,4 @@
-//! The destinations of a table, in call order.
+//! The destinations of a table, in call order. Called by `broadcasting` and `table`.
 ghost use Rattle.std.specs.Prelude.{◌≡◌, ◌<◌, ◌≤◌, length, IfOk, slice_get, flat_map};
 ghost use Rattle.std.specs.List.{prefix_len};
 ghost use Rattle.route_table.specs.Places as places;

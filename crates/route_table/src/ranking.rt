@@ -1,4 +1,4 @@
-//! Routes by quality, and which is the better one (NET/ROM, Appendix B).
+//! Routes by quality, and which is the better one (NET/ROM, Appendix B). Called by `entering`, `rows` and `table`.
 ghost use Rattle.std.specs.Prelude.{◌≡◌, ◌≤◌, ◌<◌, ◌-◌, length, slice_get, slice_index_or, true};
 ghost use Rattle.std.specs.Option.{option_map};
 ghost use Rattle.ax_address.specs.Callsign.{call_lt};

@@ -1,4 +1,4 @@
-//! The reports that a broadcast stands for (NET/ROM, Appendix B).
+//! The reports that a broadcast stands for (NET/ROM, Appendix B). Called by `entering` and `rows`.
 ghost use Rattle.std.specs.Prelude.{◌≡◌, ◌≤◌, ◌<◌, ◌+◌, ◌++◌, ◌∷◌, ◌||◌, List, not, length};
 ghost use Rattle.ax_address.specs.Callsign.{same_call};
 ghost use Rattle.ax_address.specs.declared.entry.Entry.{Entry};

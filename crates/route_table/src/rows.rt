@@ -1,4 +1,4 @@
-//! The usable routes that a table keeps.
+//! The usable routes that a table keeps. Called by `entering` and `table`.
 ghost use Rattle.std.specs.Prelude.{◌≡◌, ◌≤◌, ◌<◌, ◌+◌, ◌-◌, ◌∷◌, [], map, filter, length, vec_len, vec_capacity, slice_index_or, true, Some, OnOk, OnErr};
 ghost use Rattle.route_table.specs.declared.route.Route.{Route};
 ghost use Rattle.route_table.specs.Places as places;

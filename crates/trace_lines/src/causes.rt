@@ -1,4 +1,4 @@
-//! The verdict, and its cause.
+//! The verdict, and its cause. Called by `traces`.
 ghost use Rattle.std.specs.Prelude.{◌≡◌, ◌++◌, OnOk, IfOk, Some, string_bytes};
 ghost use Rattle.net_replay.specs.declared.sign.Sign.TheVariants as signs;
 ghost use Rattle.net_replay.specs.Reports.{late_word};

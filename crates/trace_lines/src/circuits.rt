@@ -1,4 +1,4 @@
-//! What the nodes tell: of their links, their tables and their circuits.
+//! What the nodes tell: of their links, their tables and their circuits. Called by `events`.
 ghost use Rattle.std.specs.Prelude.{◌≡◌, ◌++◌, [], ◌∷◌, OnOk, IfOk, string_bytes};
 ghost use Rattle.std.specs.Fmt.{decimal};
 ghost use Rattle.std.specs.Option.{option_map};

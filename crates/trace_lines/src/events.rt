@@ -1,4 +1,4 @@
-//! The events of a trace.
+//! The events of a trace. Called by `traces`.
 ghost use Rattle.std.specs.Prelude.{◌≡◌, ◌++◌, [], ◌∷◌, length, OnOk, IfOk, string_bytes, map, flat_map};
 ghost use Rattle.net_replay.specs.World.{frame_of};
 ghost use Rattle.net_replay.specs.Events.{event_of, numbered_of};

@@ -1,4 +1,4 @@
-//! The network that was read, and the lines of its file.
+//! The network that was read, and the lines of its file. Called by `traces`.
 ghost use Rattle.std.specs.Prelude.{◌≡◌, ◌++◌, flat_map, OnOk, IfOk, string_bytes, codes};
 ghost use Rattle.std.specs.Fmt.{decimal};
 ghost use Rattle.ax_address.specs.Callsign as calls;

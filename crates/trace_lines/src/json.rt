@@ -1,4 +1,4 @@
-//! Values of JSON (RFC 8259).
+//! Values of JSON (RFC 8259). Called by `circuits`, `events`, `heads` and `left`.
 ghost use Rattle.std.specs.Prelude.{◌≡◌, ◌<◌, ◌++◌, flat_map, codes, OnOk, IfOk, string_bytes};
 ghost use Rattle.std.specs.Fmt.{decimal};
 ghost use Rattle.ax_address.specs.Alias as aliases;

@@ -1,4 +1,4 @@
-//! The nodes as they were left: their tables, and the ends that they ever made.
+//! The nodes as they were left: their tables, and the ends that they ever made. Called by `circuits`, `events` and `traces`.
 ghost use Rattle.std.specs.Prelude.{◌≡◌, ◌++◌, List, Option, OnOk, IfOk, string_bytes, flat_map};
 ghost use Rattle.std.specs.Fmt.{decimal};
 ghost use Rattle.node_core.specs.Standing.{NodeStands};

@@ -1,4 +1,4 @@
-//! What a trace tells of mail.
+//! What a trace tells of mail. Called by `events` and `left`.
 ghost use Rattle.std.specs.Prelude.{◌≡◌, ◌++◌, OnOk, IfOk, Option, string_bytes};
 ghost use Rattle.trace_lines.specs.Json.{fields_text};
 ghost use Rattle.net_replay.specs.Traces.{MailStands};

@@ -1,4 +1,4 @@
-//! Which lines bring a frame again.
+//! Which lines bring a frame again. Called by `events` and `traces`.
 ghost use Rattle.std.specs.Prelude.{◌≡◌, ◌||◌, ◌&&◌, ◌==◌, ◌<◌, ℕ, true, length, slice_set, IfOk, OnOk};
 ghost use Rattle.trace_lines.specs.Events as events;
 ghost use Rattle.trace_lines.specs.Marks.{mark_at};
