@@ -20,11 +20,11 @@ pub record Frame : Type 0 where
 -- what stays: the modulus, the window that is used, the times in milliseconds
 pub record Rules : Type 0 where
   pub size : ℕ
-  pub window : ℕ
+  pub window : ℕ  -- k
   pub srej : Bool
   pub t1 : ℕ
   pub t3 : ℕ
-  pub retries : ℕ
+  pub retries : ℕ  -- N2
 
 -- with SREJ each number of the window has a place where a payload can be kept early; without SREJ none has
 abbrev pub places : Rules → ℕ
@@ -34,12 +34,12 @@ pub record State : Type 0 where
   pub rules : Rules
   pub phase : LinkPhase
   pub given : List Payload  -- what was accepted for the other station since the link was Down or reset
-  pub acked : ℕ  -- how many of them the other station has
-  pub sent : ℕ  -- how many were put out
-  pub received : List Payload  -- what was got from it; their number is the next one expected
+  pub acked : ℕ  -- how many of them the other station has: V(A)
+  pub sent : ℕ  -- how many were put out: V(S)
+  pub received : List Payload  -- what was got from it; their number is the next one expected: V(R)
   pub early : List (Option Payload)  -- what came before its turn; the first place is for the next one expected
   pub inbox : List Payload  -- what was got and not taken
-  pub tries : ℕ
+  pub tries : ℕ  -- expiries without an answer so far: RC
   pub polling : Bool
   pub peer_busy : Bool
   pub rej_sent : Bool  -- a REJ was put out and not answered

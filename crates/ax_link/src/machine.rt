@@ -20,22 +20,29 @@ pub(crate) const INBOX: usize = 64;
 /// One end of a link. All rings have their room from the start.
 #[derive(Drop)]
 pub(crate) struct Machine<M> {
+    /// k: how many payloads may be under way.
     pub(crate) window: u64,
     pub(crate) t1: u64,
     pub(crate) t3: u64,
+    /// N2: how many expiries in a row are answered by asking again.
     pub(crate) retries: u8,
     pub(crate) srej: bool,
     pub(crate) phase: LinkPhase,
     /// What was accepted and isn't acknowledged.
     pub(crate) queue: HeapCircularBuffer<Payload>,
+    /// V(A), V(S) and V(R), as whole counts: how many payloads are acknowledged, were put out, and were got in their turn.
     pub(crate) acked: u64,
     pub(crate) sent: u64,
     pub(crate) got: u64,
+    /// What came before its turn, where SREJ is used.
     pub(crate) early: Places,
     pub(crate) inbox: HeapCircularBuffer<Payload>,
+    /// RC: how many expiries have gone without an answer so far.
     pub(crate) tries: u8,
+    /// Whether a poll isn't answered yet (timer recovery).
     pub(crate) polling: bool,
     pub(crate) peer_busy: bool,
+    /// Whether a REJ isn't answered yet (reject exception).
     pub(crate) rej_sent: bool,
     pub(crate) closing: bool,
     pub(crate) t1_at: u64,
