@@ -3,4 +3,6 @@
 
 pub mod laws;
 
-pub use circuit_table::{CircuitSet, ConnectRefusal, DiscardRefusal, MAX_ENDS, NoEnd, SetEvent, SetRefusal};
+pub use circuit_table::{
+    CircuitSet, ConnectRefusal, DiscardRefusal, MAX_ENDS, NoEnd, SetEvent, SetRefusal,
+};
