@@ -1,17 +1,17 @@
-//! Tests of a node's circuits and of the verdict: worked rows, two nodes over a path that loses, repeats and reorders, and made-up lists of
-//! events.
+//! Tests of datagrams and of circuits beside the rows of `examples/rows`: the lines that stand at routers, ends, sets and verdicts, and what
+//! stands where memory is refused.
 //!
 //! They stand here and not in those crates, since a crate with tests is proved twice. What makes a test's proof long is each function that
-//! makes, returns or drops a set, a verdict or an event: so one function makes them, and lends them to the rest.
+//! makes, returns or drops a set, a verdict or an event: so few functions do, and lend them to the rest.
 #![tactic(auto)]
 
 #[cfg(test)]
+mod ends;
+#[cfg(test)]
 mod refused;
 #[cfg(test)]
-mod rows;
+mod routers;
 #[cfg(test)]
 mod sets;
-#[cfg(test)]
-mod talk;
 #[cfg(test)]
 mod verdicts;

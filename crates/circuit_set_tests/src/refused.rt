@@ -1,9 +1,14 @@
-//! A set of circuits is spent where memory is refused, as `bench/allocations` does at each allocation in turn.
+//! What stands where memory is refused, as `bench/allocations` does at each allocation in turn. A set of circuits and a router are spent
+//! then. A table and a carrier stay as they were, and the same call made again gives what it would have given.
 use crate::sets::*;
 use ax_address::{Alias, Call};
 use circuit_set::{ConnectRefusal, SetRefusal};
-use l3_datagram::Message;
+use l3_datagram::{
+    Carrier, Datagram, DatagramHead, Message, Offered, PlainCarrier, Routed, Router, Sending,
+    write_datagram,
+};
 use radio_base::NoMemory;
+use route_table::{HeardRefusal, LockRefusal, RouteTable};
 use std::alloc::Global;
 use std::process::Abort;
 
@@ -14,10 +19,10 @@ fn a_set_is_spent(rt: HostRuntime) {
 
 /// Makes the sets of two nodes, of which the one asks the other for a circuit, where there is memory for that.
 fn open_a_circuit(rt: &impl Abort, alloc: Global) {
-    let Ok(mut a) = made_set(alloc, a_call(), 200) else {
+    let Ok(mut a) = made_set(alloc, a_call()) else {
         return;
     };
-    let Ok(mut b) = made_set(alloc, b_call(), 200) else {
+    let Ok(mut b) = made_set(alloc, b_call()) else {
         return;
     };
     if comes_over(rt, &mut a, &mut b) {
@@ -115,4 +120,145 @@ fn expect_hello(rt: &impl Abort, b: &mut Set) {
     assert!(rt; b.drained());
     assert!(rt; b.take(1, &mut out, NOW) == Ok(true));
     assert!(rt; out.as_slice() == b"hello".as_slice());
+}
+
+fn call(text: &[u8]) -> Call {
+    Call::read(text).unwrap_or_default()
+}
+
+/// A call of its own for each number below 26.
+fn numbered(n: u8) -> Call {
+    call(&[b'N', b'0', b'A' + n % 26])
+}
+
+/// A datagram from N0EEE to N0BBB.
+fn datagram() -> Datagram {
+    let head = DatagramHead {
+        origin: call(b"N0EEE"),
+        dest: call(b"N0BBB"),
+        ttl: 9,
+    };
+    write_datagram(&head, b"hello").ok().unwrap_or_default()
+}
+
+#[test]
+fn a_router_is_spent(rt: HostRuntime) {
+    let alloc = rt.alloc();
+    let table = RouteTable::new(alloc, call(b"N0AAA"), RULES);
+    let carrier = PlainCarrier::new(alloc);
+    let mut router = Router::new(alloc, call(b"N0AAA"), table, carrier, 2);
+    if hear_b(&mut router) && bring_nine(&mut router) {
+        expect_routed(&rt, &mut router);
+    }
+}
+
+/// Its neighbour N0BBB is heard: false where there is no memory for that.
+fn hear_b(router: &mut Router<PlainCarrier>) -> bool {
+    let table = router.table_mut();
+    table
+        .heard(&call(b"N0BBB"), &Alias::default(), 192, &[])
+        .is_ok()
+}
+
+/// Nine datagrams come from N0EEE.
+fn bring_nine(router: &mut Router<PlainCarrier>) -> bool {
+    for _ in 0..9 {
+        if router
+            .carrier_mut()
+            .bring(&call(b"N0EEE"), &datagram())
+            .is_err()
+        {
+            return false;
+        }
+    }
+    true
+}
+
+fn expect_routed(rt: &impl Abort, router: &mut Router<PlainCarrier>) {
+    match route(router) {
+        Ok(count) => assert_eq!(rt; count, 18),
+        Err(NoMemory) => expect_spent_router(rt, router),
+    }
+}
+
+/// Nine datagrams go on, and nine of the node's own behind each. How many were sent.
+fn route(router: &mut Router<PlainCarrier>) -> Result<u64, NoMemory> {
+    let mut count = 0u64;
+    for _ in 0..9 {
+        if router.pump(NOW)? == Some(Routed::Forwarded) {
+            count = count.saturating_add(1);
+        }
+        if router.send(&call(b"N0BBB"), b"hello", NOW)? == Sending::Sent {
+            count = count.saturating_add(1);
+        }
+    }
+    Ok(count)
+}
+
+fn expect_spent_router(rt: &impl Abort, router: &mut Router<PlainCarrier>) {
+    assert!(rt; router.pump(NOW) == Err(NoMemory));
+    assert!(rt; router.send(&call(b"N0BBB"), b"hello", NOW) == Err(NoMemory));
+    assert!(rt; router.send(&call(b"N0FFF"), b"hello", NOW) == Err(NoMemory));
+}
+
+#[test]
+fn a_carrier_stays_as_it_was(rt: HostRuntime) {
+    let mut carrier = PlainCarrier::new(rt.alloc());
+    for n in 0..20u8 {
+        bring_in_the_end(&rt, &mut carrier, n);
+        offer_in_the_end(&rt, &mut carrier, n);
+    }
+    for n in 0..20u8 {
+        let wanted = Some((numbered(n), datagram()));
+        assert!(rt; carrier.collect() == wanted);
+        assert!(rt; carrier.fetch() == wanted);
+    }
+    assert!(rt; carrier.is_idle());
+    assert!(rt; carrier.fetch().is_none());
+}
+
+/// A datagram comes from this neighbour, at the second call where the first is refused.
+fn bring_in_the_end(rt: &impl Abort, carrier: &mut PlainCarrier, n: u8) {
+    if carrier.bring(&numbered(n), &datagram()).is_err() {
+        assert!(rt; carrier.bring(&numbered(n), &datagram()) == Ok(()));
+    }
+}
+
+/// One is offered for it, likewise.
+fn offer_in_the_end(rt: &impl Abort, carrier: &mut PlainCarrier, n: u8) {
+    if carrier.offer(&numbered(n), &datagram(), NOW).is_err() {
+        assert!(rt; carrier.offer(&numbered(n), &datagram(), NOW) == Ok(Offered::Taken));
+    }
+}
+
+#[test]
+fn a_table_stays_as_it_was(rt: HostRuntime) {
+    let mut table = RouteTable::new(rt.alloc(), call(b"N0ZZZ"), RULES);
+    for n in 0..20u8 {
+        hear_in_the_end(&rt, &mut table, n);
+        lock_in_the_end(&rt, &mut table, n);
+        assert!(rt; table.live() == 2 * n as usize + 2);
+    }
+}
+
+/// The neighbour of this number is heard, at the second call where the first is refused.
+fn hear_in_the_end(rt: &impl Abort, table: &mut RouteTable, n: u8) {
+    let live = table.live();
+    let mut heard = table.heard(&numbered(n), &Alias::default(), 192, &[]);
+    if heard == Err(HeardRefusal::NoMemory) {
+        assert!(rt; table.live() == live);
+        heard = table.heard(&numbered(n), &Alias::default(), 192, &[]);
+    }
+    assert!(rt; heard == Ok(()));
+}
+
+/// A route to it over N0YYY is locked in, likewise.
+fn lock_in_the_end(rt: &impl Abort, table: &mut RouteTable, n: u8) {
+    let live = table.live();
+    let mut locked = table.lock(&numbered(n), &Alias::default(), &call(b"N0YYY"), 100);
+    if locked == Err(LockRefusal::NoMemory) {
+        assert!(rt; table.live() == live);
+        locked = table.lock(&numbered(n), &Alias::default(), &call(b"N0YYY"), 100);
+    }
+    assert!(rt; locked == Ok(()));
 }

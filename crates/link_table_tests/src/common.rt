@@ -1,11 +1,11 @@
 //! What the tests of tables of links share.
-use crate::{carried, opened, refused, rows, texts};
+use crate::{opened, refused, rows, texts};
 use ax_address::Call;
 use ax_frame::{FrameView, read_frame};
 use ax_link::LinkConfig;
 use l3_datagram::{Datagram, Message};
 use link_table::{LinkTable, Written};
-use radio_base::{M8, M128, Moment};
+use radio_base::{M8, Moment};
 use std::alloc::Global;
 use std::process::Abort;
 
@@ -22,9 +22,6 @@ pub const CONFIG: LinkConfig = LinkConfig {
 /// What is tried on two tables.
 #[derive(Clone, Copy)]
 pub enum Trial {
-    WithoutLinks,
-    OverALink,
-    SixtyFiveLinks,
     Paths,
     TextHoldsBack,
     WhichTexts,
@@ -32,27 +29,22 @@ pub enum Trial {
     NotOpened,
     WhoCalled,
     Refused,
-    /// Over a channel that loses frames; a long text comes as so many.
-    Lossy { texts: u64 },
 }
 
 /// Makes tables of N0AAA and N0BBB, and tries this on them.
-pub fn on_two_tables(rt: &impl Abort, alloc: Global, links: bool, modulo128: bool, trial: Trial) {
-    let mut a = table(rt, alloc, a_call(), links, modulo128);
-    let mut b = table(rt, alloc, b_call(), links, modulo128);
+pub fn on_two_tables(rt: &impl Abort, alloc: Global, trial: Trial) {
+    let mut a = table(rt, alloc, a_call());
+    let mut b = table(rt, alloc, b_call());
     play(rt, alloc, trial, &mut a, &mut b);
 }
 
-fn table(rt: &impl Abort, alloc: Global, own: Call, links: bool, modulo128: bool) -> LinkTable {
-    let made = LinkTable::new(alloc, own, links, modulo128, CONFIG);
+fn table(rt: &impl Abort, alloc: Global, own: Call) -> LinkTable {
+    let made = LinkTable::new(alloc, own, true, false, CONFIG);
     made.ok().expect(rt, "memory")
 }
 
 fn play(rt: &impl Abort, alloc: Global, trial: Trial, a: &mut LinkTable, b: &mut LinkTable) {
     match trial {
-        Trial::WithoutLinks => rows::send_without_links(rt, alloc, a),
-        Trial::OverALink => rows::send_over_a_link(rt, alloc, a, b),
-        Trial::SixtyFiveLinks => rows::set_up_65_links(rt, alloc, a),
         Trial::Paths => rows::set_paths(rt, a),
         Trial::TextHoldsBack => texts::hold_back(rt, a),
         Trial::WhichTexts => texts::send_texts(rt, a, b),
@@ -60,7 +52,6 @@ fn play(rt: &impl Abort, alloc: Global, trial: Trial, a: &mut LinkTable, b: &mut
         Trial::NotOpened => opened::open_no_more(rt, alloc, a),
         Trial::WhoCalled => opened::tell_who_called(rt, a, b),
         Trial::Refused => refused::spend(rt, a),
-        Trial::Lossy { texts } => carried::carry(rt, a, b, texts),
     }
 }
 
@@ -94,21 +85,14 @@ pub fn text(len: usize) -> Message {
     text
 }
 
-/// Hands a frame of this station to a table.
-pub fn hand(rt: &impl Abort, written: &Written, from: &Call, to: &mut LinkTable, now: Moment) {
-    let octets = written.octets.as_slice();
-    if to.is_128(from) {
-        if let Ok(frame) = read_frame::<M128>(octets) {
-            arrive(rt, to, &frame, now);
-        }
-    } else {
-        if let Ok(frame) = read_frame::<M8>(octets) {
-            arrive(rt, to, &frame, now);
-        }
+/// Hands a frame to a table.
+pub fn hand(rt: &impl Abort, written: &Written, to: &mut LinkTable) {
+    if let Ok(frame) = read_frame::<M8>(written.octets.as_slice()) {
+        arrive(rt, to, &frame);
     }
 }
 
 /// A frame comes to a table, which has memory enough.
-pub fn arrive(rt: &impl Abort, to: &mut LinkTable, frame: &FrameView<'_>, now: Moment) {
-    assert!(rt; to.arrive(frame, now) == Ok(()));
+pub fn arrive(rt: &impl Abort, to: &mut LinkTable, frame: &FrameView<'_>) {
+    assert!(rt; to.arrive(frame, NOW) == Ok(()));
 }

@@ -11,7 +11,7 @@ use std::rt::HostRuntime;
 
 #[test]
 fn a_link_goes_over_its_own_repeaters(rt: HostRuntime) {
-    on_two_tables(&rt, rt.alloc(), true, false, Trial::OwnRepeaters);
+    on_two_tables(&rt, rt.alloc(), Trial::OwnRepeaters);
 }
 
 /// N0AAA opens a link over two repeaters, then others over those that are set and over none.
@@ -52,7 +52,7 @@ fn expect_path(rt: &impl Abort, a: &LinkTable, peer: &[u8], repeaters: Option<us
 
 #[test]
 fn a_link_is_opened_where_none_stands_and_there_is_room(rt: HostRuntime) {
-    on_two_tables(&rt, rt.alloc(), true, false, Trial::NotOpened);
+    on_two_tables(&rt, rt.alloc(), Trial::NotOpened);
 }
 
 /// 64 links stand: what stands against one more.
@@ -69,7 +69,7 @@ pub fn open_no_more(rt: &impl Abort, alloc: Global, a: &mut LinkTable) {
 
 #[test]
 fn who_has_set_a_link_up(rt: HostRuntime) {
-    on_two_tables(&rt, rt.alloc(), true, false, Trial::WhoCalled);
+    on_two_tables(&rt, rt.alloc(), Trial::WhoCalled);
 }
 
 /// N0AAA's link with N0BBB is its own, and is N0BBB's once that sets it up again; N0BBB has made its own end.

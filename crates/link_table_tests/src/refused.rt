@@ -11,7 +11,7 @@ use std::rt::HostRuntime;
 
 #[test]
 fn a_table_is_spent(rt: HostRuntime) {
-    on_two_tables(&rt, rt.alloc(), true, false, Trial::Refused);
+    on_two_tables(&rt, rt.alloc(), Trial::Refused);
 }
 
 /// One call of each kind is made, or else each answers that it wants memory, from the first on that does.

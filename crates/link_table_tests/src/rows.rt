@@ -77,17 +77,6 @@ fn a_table_in_use(rt: HostRuntime) -> Result<(), Fail> {
     Ok(())
 }
 
-#[test]
-fn a_datagram_without_links_goes_in_a_ui_frame(rt: HostRuntime) {
-    on_two_tables(&rt, rt.alloc(), false, false, Trial::WithoutLinks);
-}
-
-pub fn send_without_links(rt: &impl Abort, alloc: Global, a: &mut LinkTable) {
-    offer(rt, a);
-    expect_frame(rt, alloc, a, b"N0AAA>N0BBB cmd UI pf=0 pid=CF len=35");
-    assert!(rt; a.next_out().is_none());
-}
-
 /// N0AAA offers a datagram for N0BBB.
 fn offer(rt: &impl Abort, a: &mut LinkTable) {
     assert!(rt; a.offer(&b_call(), &datagram(0), NOW) == Ok(Offered::Taken));
@@ -114,42 +103,20 @@ fn show(rt: &impl Abort, written: &Written, out: &mut TextOut) {
     }
 }
 
-#[test]
-fn a_datagram_goes_over_a_link(rt: HostRuntime) {
-    on_two_tables(&rt, rt.alloc(), true, false, Trial::OverALink);
-}
-
-/// N0AAA's datagram sets a link up and goes over it, and then the link is broken.
-pub fn send_over_a_link(rt: &impl Abort, alloc: Global, a: &mut LinkTable, b: &mut LinkTable) {
-    join(rt, a, b);
-    expect_collected(rt, b, Some((a_call(), datagram(0))));
-    expect_collected(rt, b, None);
-    expect_frame(rt, alloc, b, b"N0BBB>N0AAA res RR nr=1 pf=0");
-    assert!(rt; a.break_link(&b_call()) == Ok(()));
-    expect_notice(rt, a, b_call(), LinkNotice::Failed);
-    assert!(rt; a.failed() == Some(b_call()));
-    assert!(rt; a.link(&b_call()).is_none());
-}
-
-/// This datagram comes up next, or none does.
-fn expect_collected(rt: &impl Abort, table: &mut LinkTable, wanted: Option<(Call, Datagram)>) {
-    assert!(rt; table.collect() == wanted);
-}
-
 /// N0AAA offers a datagram, and so gets a link with N0BBB, to which it goes.
 pub fn join(rt: &impl Abort, a: &mut LinkTable, b: &mut LinkTable) {
     offer(rt, a);
-    hand_on(rt, a, a_call(), b);
+    hand_on(rt, a, b);
     expect_notice(rt, b, a_call(), LinkNotice::Opened);
-    hand_on(rt, b, b_call(), a);
+    hand_on(rt, b, a);
     expect_notice(rt, a, b_call(), LinkNotice::Opened);
-    hand_on(rt, a, a_call(), b);
+    hand_on(rt, a, b);
 }
 
 /// Hands the next frame of the one to the other.
-fn hand_on(rt: &impl Abort, from: &mut LinkTable, own: Call, to: &mut LinkTable) {
+fn hand_on(rt: &impl Abort, from: &mut LinkTable, to: &mut LinkTable) {
     if let Some(written) = from.next_out() {
-        hand(rt, &written, &own, to, NOW);
+        hand(rt, &written, to);
     }
 }
 
@@ -157,16 +124,11 @@ pub fn expect_notice(rt: &impl Abort, table: &mut LinkTable, peer: Call, notice:
     assert!(rt; table.notice() == Some((peer, notice)));
 }
 
-#[test]
-fn the_65th_set_up_is_refused(rt: HostRuntime) {
-    on_two_tables(&rt, rt.alloc(), true, false, Trial::SixtyFiveLinks);
-}
-
+/// 64 stations set links up, and a 65th is refused.
 pub fn set_up_65_links(rt: &impl Abort, alloc: Global, a: &mut LinkTable) {
     for n in 0..64 {
         set_up(rt, a, numbered(n));
-        let shown = shown_next(rt, alloc, a);
-        assert!(rt; shown.bytes().ends_with(b" res UA pf=1"));
+        assert!(rt; a.next_out().is_some());
     }
     set_up(rt, a, numbered(64));
     expect_frame(rt, alloc, a, b"N0AAA>N0CM res DM pf=1");
@@ -185,7 +147,7 @@ pub fn arrive_kind(rt: &impl Abort, a: &mut LinkTable, source: Call, control: Co
         pid: None,
         info: &[],
     };
-    arrive(rt, a, &frame, NOW);
+    arrive(rt, a, &frame);
 }
 
 /// The head of a command of this station to N0AAA.
@@ -215,7 +177,7 @@ fn numbered(n: u64) -> Call {
 
 #[test]
 fn sixteen_paths_of_two_repeaters(rt: HostRuntime) {
-    on_two_tables(&rt, rt.alloc(), false, false, Trial::Paths);
+    on_two_tables(&rt, rt.alloc(), Trial::Paths);
 }
 
 pub fn set_paths(rt: &impl Abort, a: &mut LinkTable) {

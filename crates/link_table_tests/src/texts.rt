@@ -10,7 +10,7 @@ use std::rt::HostRuntime;
 
 #[test]
 fn a_text_holds_back_what_came_behind_it(rt: HostRuntime) {
-    on_two_tables(&rt, rt.alloc(), true, false, Trial::TextHoldsBack);
+    on_two_tables(&rt, rt.alloc(), Trial::TextHoldsBack);
 }
 
 /// Datagrams and texts come to N0AAA in turn.
@@ -45,7 +45,7 @@ fn bring(rt: &impl Abort, a: &mut LinkTable, ns: u8, pid: u8, info: &[u8]) {
         pid: Some(pid),
         info,
     };
-    arrive(rt, a, &frame, NOW);
+    arrive(rt, a, &frame);
 }
 
 /// One datagram comes up, and none behind it.
@@ -62,7 +62,7 @@ fn expect_text(rt: &impl Abort, a: &mut LinkTable, text: &[u8]) {
 
 #[test]
 fn which_texts_are_sent(rt: HostRuntime) {
-    on_two_tables(&rt, rt.alloc(), true, false, Trial::WhichTexts);
+    on_two_tables(&rt, rt.alloc(), Trial::WhichTexts);
 }
 
 /// A text of 8,192 bytes goes in 32 pieces.

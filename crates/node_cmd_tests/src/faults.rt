@@ -129,33 +129,3 @@ fn without_a_fault_all_is_written(rt: HostRuntime) {
         check(&rt, rt.alloc(), case, Status::Done, written, b"");
     }
 }
-
-/// The reports of a file that ends with the alias cut after each of its characters.
-const REPORTS: [&[u8]; 5] = [
-    b"table 1 N0AAA A\nverdict done\n",
-    b"table 1 N0AAA AN\nverdict done\n",
-    b"table 1 N0AAA ANO\nverdict done\n",
-    b"table 1 N0AAA ANOD\nverdict done\n",
-    b"table 1 N0AAA ANODE\nverdict done\n",
-];
-
-#[test]
-fn a_file_may_end_after_any_of_its_bytes(rt: HostRuntime) {
-    let file = b"node 1 N0AAA ANODE";
-    for end in 0..=file.len() {
-        let (status, written, notes): (Status, &[u8], &[u8]) = match end {
-            0 => (Status::Done, b"verdict done\n", b""),
-            1..=3 => (Status::BadFile, b"", b"line 1: word\n"),
-            4..=13 => (Status::BadFile, b"", b"line 1: count\n"),
-            _ => (Status::Done, REPORTS[end - 14], b""),
-        };
-        check(
-            &rt,
-            rt.alloc(),
-            &replay_of(&file[..end]),
-            status,
-            written,
-            notes,
-        );
-    }
-}

@@ -27,11 +27,4 @@ fn what_is_sent_for_a_read_is_written_before_the_next(rt: HostRuntime) {
         REPLY,
         b"read fault\n",
     );
-
-    let whole = Case {
-        piece: 7,
-        failing_reads: &[],
-        ..case
-    };
-    check(&rt, rt.alloc(), &whole, Status::Done, REPLY, b"");
 }

@@ -1,5 +1,5 @@
 //! A circuit that is asked for in a user's name.
-use crate::nodes::{NOW, a_call, b_call, config, done, flow, node};
+use crate::nodes::{NOW, Trial, a_call, b_call, done, flow, meet, on_three_nodes};
 use ax_address::{Alias, Call};
 use circuit_l4::{Transport, read_transport};
 use circuit_table::SetEvent;
@@ -39,40 +39,40 @@ fn user_behind(octets: &[u8], front: usize) -> Option<Call> {
 
 #[test]
 fn a_request_carries_its_user(rt: HostRuntime) {
-    let mut a = node(&rt, rt.alloc(), a_call(), false);
-    let mut b = node(&rt, rt.alloc(), b_call(), false);
-    done(&rt, &mut a, &UserAct::Round);
-    done(&rt, &mut b, &UserAct::Round);
-    flow(&rt, &mut a, &mut b);
-    let act = UserAct::ConnectFor {
-        user: user_call(),
-        dest: b_call(),
-    };
-    assert!(rt; matches!(a.act(&act, NOW), Ok(ActDone::Made(1))));
-    flow(&rt, &mut a, &mut b);
-    assert!(rt; user_of(&mut b) == Some(user_call()));
-    // Without a name it is the node's own call.
+    on_three_nodes(&rt, rt.alloc(), Trial::NamedUser);
+}
+
+/// N0AAA asks N0BBB for a circuit in a user's name, and for one in its own.
+pub fn ask(rt: &impl Abort, a: &mut Node, b: &mut Node) {
+    meet(rt, a, b);
+    ask_for_user(rt, a);
+    flow(rt, a, b);
+    assert!(rt; user_of(b) == Some(user_call()));
     assert!(rt;
         matches!(
             a.act(&UserAct::Connect(b_call()), NOW),
             Ok(ActDone::Made(2))
         )
     );
-    flow(&rt, &mut a, &mut b);
-    assert!(rt; user_of(&mut b) == Some(a_call()));
+    flow(rt, a, b);
+    assert!(rt; user_of(b) == Some(a_call()));
+}
+
+fn ask_for_user(rt: &impl Abort, a: &mut Node) {
+    let act = UserAct::ConnectFor {
+        user: user_call(),
+        dest: b_call(),
+    };
+    assert!(rt; matches!(a.act(&act, NOW), Ok(ActDone::Made(1))));
 }
 
 #[test]
 fn a_repeated_request_carries_its_user(rt: HostRuntime) {
-    let mut settings = config(a_call(), false);
-    settings.links = false;
-    let made = Node::new(rt.alloc(), settings);
-    let mut a = made.ok().expect(&rt, "memory");
-    repeat(&rt, &mut a);
+    on_three_nodes(&rt, rt.alloc(), Trial::RepeatedRequest);
 }
 
 /// Nobody answers N0AAA, whose datagrams go in UI frames.
-fn repeat(rt: &impl Abort, a: &mut Node) {
+pub fn repeat(rt: &impl Abort, a: &mut Node) {
     let lock = UserAct::Lock {
         dest: b_call(),
         alias: Alias::default(),
@@ -80,11 +80,7 @@ fn repeat(rt: &impl Abort, a: &mut Node) {
         quality: 255,
     };
     done(rt, a, &lock);
-    let act = UserAct::ConnectFor {
-        user: user_call(),
-        dest: b_call(),
-    };
-    assert!(rt; matches!(a.act(&act, NOW), Ok(ActDone::Made(1))));
+    ask_for_user(rt, a);
     assert!(rt; user_sent(a) == Some(user_call()));
     assert!(rt; user_sent(a) == None);
     assert!(rt; a.tick(Moment(60_000)) == Ok(()));

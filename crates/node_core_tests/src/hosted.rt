@@ -1,5 +1,5 @@
 //! A node that hosts its users: what comes over its links stays there until it is taken.
-use crate::nodes::{NOW, a_call, b_call, config, done, flow, node, refused};
+use crate::nodes::{NOW, Trial, a_call, b_call, config, done, flow, on_three_nodes, refused};
 use ax_address::{Address, Call, Path};
 use ax_link::{LinkNotice, LinkPhase};
 use link_table::LinkOf;
@@ -8,7 +8,7 @@ use std::alloc::Global;
 use std::process::Abort;
 
 fn hosting(rt: &impl Abort, alloc: Global, call: Call) -> Node {
-    let made = Node::hosting(alloc, config(call, false));
+    let made = Node::hosting(alloc, config(call, true));
     made.ok().expect(rt, "memory")
 }
 
@@ -20,11 +20,20 @@ fn expect_text(rt: &impl Abort, node: &mut Node, peer: Call, text: &[u8]) {
     }
 }
 
+/// Makes two nodes that host, and has them talk, or the one alone call a station.
+fn on_two_hosts(rt: &impl Abort, alloc: Global, with_station: bool) {
+    let mut a = hosting(rt, alloc, a_call());
+    let mut b = hosting(rt, alloc, b_call());
+    if with_station {
+        call_station(rt, &mut a);
+    } else {
+        talk(rt, &mut a, &mut b);
+    }
+}
+
 #[test]
 fn texts_wait_at_a_node_that_hosts(rt: HostRuntime) {
-    let mut a = hosting(&rt, rt.alloc(), a_call());
-    let mut b = hosting(&rt, rt.alloc(), b_call());
-    talk(&rt, &mut a, &mut b);
+    on_two_hosts(&rt, rt.alloc(), false);
 }
 
 fn talk(rt: &impl Abort, a: &mut Node, b: &mut Node) {
@@ -92,19 +101,15 @@ fn expect_up(rt: &impl Abort, node: &Node, peer: Call) {
 
 #[test]
 fn no_other_node_hosts(rt: HostRuntime) {
-    let mut a = node(&rt, rt.alloc(), a_call(), false);
-    let text = UserAct::SendText {
-        to: b_call(),
-        text: b"hello",
-    };
-    for act in [
-        UserAct::TakeText(b_call()),
-        text,
-        to_open(b_call(), Path::new()),
-        UserAct::CloseLink(b_call()),
-    ] {
-        refused(&rt, &mut a, &act, ActRefusal::Served);
-    }
+    on_three_nodes(&rt, rt.alloc(), Trial::NoHost);
+}
+
+pub fn refuse(rt: &impl Abort, a: &mut Node) {
+    let (to, text) = (b_call(), b"hello".as_slice());
+    refused(rt, a, &UserAct::TakeText(to), ActRefusal::Served);
+    refused(rt, a, &UserAct::SendText { to, text }, ActRefusal::Served);
+    refused(rt, a, &to_open(to, Path::new()), ActRefusal::Served);
+    refused(rt, a, &UserAct::CloseLink(to), ActRefusal::Served);
 }
 
 /// The addresses of frames between N0AAA and the station N0XYZ over N0DGI: of N0AAA, and of the station, which N0DGI has repeated.
@@ -172,8 +177,7 @@ fn expect_told(rt: &impl Abort, node: &mut Node, notice: LinkNotice) {
 
 #[test]
 fn a_link_with_a_station_over_a_repeater(rt: HostRuntime) {
-    let mut a = hosting(&rt, rt.alloc(), a_call());
-    call_station(&rt, &mut a);
+    on_two_hosts(&rt, rt.alloc(), true);
 }
 
 fn call_station(rt: &impl Abort, a: &mut Node) {

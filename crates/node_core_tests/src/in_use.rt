@@ -34,7 +34,7 @@ const ASKED: [u8; 51] = [
 
 #[test]
 fn a_node_in_use(rt: HostRuntime) -> Result<(), Fail> {
-    let (alloc, config, neighbour) = (rt.alloc(), config(a_call(), false), b_call());
+    let (alloc, config, neighbour) = (rt.alloc(), config(a_call(), true), b_call());
     let (now, later, broadcast, accept) = (NOW, Moment(1000), BROADCAST, ACCEPT);
 
     let mut node = Node::new(alloc, config)?;

@@ -1,14 +1,14 @@
-//! Whole nodes, joined by lists of frames: a circuit over links of either modulus, a repeater between two nodes, a round that is heard.
+//! Whole nodes, joined by lists of frames, and what is tried on them.
 ghost use Rattle.node_core.specs.Configs.{IsConfig};
 
+use crate::{for_user, hosted, qualities};
 use arrayvec::ArrayVec;
-use ax_address::{Address, Alias, Call, Path};
+use ax_address::{Alias, Call};
 use ax_link::LinkConfig;
-use circuit_l4::{EndConfig, EndNotice, Pair};
-use circuit_table::SetEvent;
+use circuit_l4::{EndConfig, Pair};
 use kiss_framing::enframe;
-use link_table::{Written, WrittenAs};
-use node_core::{ActDone, ActRefusal, Node, NodeConfig, NodeEntry, UserAct};
+use link_table::Written;
+use node_core::{ActDone, ActRefusal, Node, NodeConfig, UserAct};
 use radio_base::Moment;
 use route_table::RouteRules;
 use std::alloc::Global;
@@ -17,7 +17,7 @@ use std::process::Abort;
 pub const NOW: Moment = Moment(0);
 
 /// The settings of a node of this call.
-pub fn config(call: Call, modulo128: bool) -> NodeConfig
+pub fn config(call: Call, links: bool) -> NodeConfig
     ensures { IsConfig result }
 {
     NodeConfig {
@@ -37,8 +37,8 @@ pub fn config(call: Call, modulo128: bool) -> NodeConfig
             busy: 180_000,
             inactive: 900_000,
         },
-        links: true,
-        modulo128,
+        links,
+        modulo128: false,
         link: LinkConfig {
             window: 0,
             srej: false,
@@ -67,38 +67,36 @@ fn c_call() -> Call {
 
 /// What is tried on three nodes.
 #[derive(Clone, Copy)]
-enum Trial {
-    CircuitModulo8,
-    CircuitModulo128,
-    Round,
-    SetUpAgain,
-    Repeats,
+pub enum Trial {
     WholeFrame,
+    NamedUser,
+    RepeatedRequest,
+    Quality,
+    NoHost,
 }
 
-/// Makes the nodes N0AAA, N0BBB and N0CCC, of which only the first may have links modulo 128, and tries this on them.
-fn on_three_nodes(rt: &impl Abort, alloc: Global, trial: Trial) {
-    let modulo128 = matches!(trial, Trial::CircuitModulo128);
-    let mut a = node(rt, alloc, a_call(), modulo128);
-    let mut b = node(rt, alloc, b_call(), false);
-    let mut c = node(rt, alloc, c_call(), false);
+/// Makes the nodes N0AAA, N0BBB and N0CCC, and tries this on them. Their datagrams go over links, but where a request is repeated.
+pub fn on_three_nodes(rt: &impl Abort, alloc: Global, trial: Trial) {
+    let links = !matches!(trial, Trial::RepeatedRequest);
+    let mut a = node(rt, alloc, a_call(), links);
+    let mut b = node(rt, alloc, b_call(), links);
+    let mut c = node(rt, alloc, c_call(), links);
     play(rt, trial, &mut a, &mut b, &mut c);
 }
 
 /// A new node of this call.
-pub fn node(rt: &impl Abort, alloc: Global, call: Call, modulo128: bool) -> Node {
-    let made = Node::new(alloc, config(call, modulo128));
+pub fn node(rt: &impl Abort, alloc: Global, call: Call, links: bool) -> Node {
+    let made = Node::new(alloc, config(call, links));
     made.ok().expect(rt, "memory")
 }
 
 fn play(rt: &impl Abort, trial: Trial, a: &mut Node, b: &mut Node, c: &mut Node) {
     match trial {
-        Trial::CircuitModulo8 => carry_a_message(rt, a, b, false),
-        Trial::CircuitModulo128 => carry_a_message(rt, a, b, true),
-        Trial::Round => hear_a_round(rt, a, b),
-        Trial::SetUpAgain => set_up_again(rt, a),
-        Trial::Repeats => repeat(rt, a, b, c),
         Trial::WholeFrame => hear_a_whole_frame(rt, a, b, c),
+        Trial::NamedUser => for_user::ask(rt, a, b),
+        Trial::RepeatedRequest => for_user::repeat(rt, a),
+        Trial::Quality => qualities::set(rt, a, b),
+        Trial::NoHost => hosted::refuse(rt, a),
     }
 }
 
@@ -155,195 +153,21 @@ pub fn refused(rt: &impl Abort, node: &mut Node, act: &UserAct, why: ActRefusal)
     assert!(rt; refusal == Some(why));
 }
 
-/// A circuit is asked for with a node: its end is the first that is made.
-pub fn connect(rt: &impl Abort, node: &mut Node, dest: Call) {
-    let outcome = node.act(&UserAct::Connect(dest), NOW);
-    assert!(rt; matches!(outcome, Ok(ActDone::Made(1))));
-}
-
 /// Both have heard a round of the other.
-fn meet(rt: &impl Abort, a: &mut Node, b: &mut Node) {
+pub fn meet(rt: &impl Abort, a: &mut Node, b: &mut Node) {
     done(rt, a, &UserAct::Round);
     done(rt, b, &UserAct::Round);
     flow(rt, a, b);
 }
 
-/// The first end has opened its circuit, with a window of 4.
-fn has_opened(node: &mut Node) -> bool {
-    let mut opened = false;
-    for _ in 0..100 {
-        match node.trace_entry() {
-            Some(entry) => opened |= is_opened(&entry),
-            None => return opened,
-        }
-    }
-    false
-}
-
-fn is_opened(entry: &NodeEntry) -> bool {
-    match entry {
-        NodeEntry::Set(SetEvent::Notice { id: 1, notice }) => {
-            matches!(notice, EndNotice::Opened { window: 4 })
-        }
-        _ => false,
-    }
-}
-
 #[test]
-fn a_circuit_over_links_modulo_8(rt: HostRuntime) {
-    on_three_nodes(&rt, rt.alloc(), Trial::CircuitModulo8);
-}
-
-#[test]
-fn a_circuit_over_links_modulo_128(rt: HostRuntime) {
-    on_three_nodes(&rt, rt.alloc(), Trial::CircuitModulo128);
-}
-
-/// N0AAA opens a circuit with N0BBB, writes a message and closes.
-fn carry_a_message(rt: &impl Abort, a: &mut Node, b: &mut Node, modulo128: bool) {
-    meet(rt, a, b);
-    connect(rt, a, b_call());
-    flow(rt, a, b);
-    assert!(rt; b.circuits().router().carrier().is_128(&a_call()) == modulo128);
-    expect_opened(rt, a);
-    expect_opened(rt, b);
-    refused(rt, b, &UserAct::Take { id: 1 }, ActRefusal::Nothing);
-    write_hello(rt, a);
-    flow(rt, a, b);
-    take_hello(rt, b);
-    done(rt, a, &UserAct::Close { id: 1 });
-    flow(rt, a, b);
-    refused(rt, a, &UserAct::Close { id: 1 }, ActRefusal::NoEnd);
-    expect_no_end(rt, a);
-    expect_no_end(rt, b);
-}
-
-fn expect_opened(rt: &impl Abort, node: &mut Node) {
-    assert!(rt; has_opened(node));
-}
-
-/// The first end is no longer known.
-fn expect_no_end(rt: &impl Abort, node: &Node) {
-    assert!(rt; node.facts(1).is_none());
-}
-
-fn write_hello(rt: &impl Abort, node: &mut Node) {
-    let act = UserAct::Write {
-        id: 1,
-        message: b"hello",
-    };
-    done(rt, node, &act);
-}
-
-fn take_hello(rt: &impl Abort, node: &mut Node) {
-    match node.act(&UserAct::Take { id: 1 }, NOW) {
-        Ok(ActDone::Took(message)) => assert!(rt; message.as_slice() == b"hello".as_slice()),
-        _ => rt.abort(),
-    }
-}
-
-#[test]
-fn a_round_is_broadcast_and_heard(rt: HostRuntime) {
-    on_three_nodes(&rt, rt.alloc(), Trial::Round);
-}
-
-/// Whoever hears the round has a route, which is gone with the link.
-fn hear_a_round(rt: &impl Abort, a: &mut Node, b: &mut Node) {
-    done(rt, a, &UserAct::Round);
-    carry(rt, a, b);
-    expect_hop(rt, b, a_call(), Some(a_call()));
-    expect_hop(rt, a, b_call(), None);
-    done(rt, b, &UserAct::LinkFail(a_call()));
-    expect_hop(rt, b, a_call(), None);
+fn a_whole_frame_ends_what_came_in_bytes(rt: HostRuntime) {
+    on_three_nodes(&rt, rt.alloc(), Trial::WholeFrame);
 }
 
 /// Which neighbour a node's datagrams to another one go to.
 fn expect_hop(rt: &impl Abort, node: &Node, dest: Call, wanted: Option<Call>) {
     assert!(rt; node.routes().next_hop(&dest) == wanted);
-}
-
-#[test]
-fn a_set_up_that_was_lost_goes_out_again(rt: HostRuntime) {
-    on_three_nodes(&rt, rt.alloc(), Trial::SetUpAgain);
-}
-
-/// N0AAA has N0BBB as its locked neighbour. What it has sent is lost, and sent again once T1 has run out.
-fn set_up_again(rt: &impl Abort, a: &mut Node) {
-    let lock = UserAct::Lock {
-        dest: b_call(),
-        alias: Alias::default(),
-        neighbour: b_call(),
-        quality: 192,
-    };
-    done(rt, a, &lock);
-    connect(rt, a, b_call());
-    let lost = a.next_frame();
-    assert!(rt; lost.is_some());
-    expect_silent(rt, a);
-    tick(rt, a, 2999);
-    expect_silent(rt, a);
-    tick(rt, a, 3000);
-    assert!(rt; a.next_frame() == lost);
-}
-
-fn tick(rt: &impl Abort, node: &mut Node, at: u64) {
-    assert!(rt; node.tick(Moment(at)) == Ok(()));
-}
-
-/// No frame waits.
-pub fn expect_silent(rt: &impl Abort, node: &mut Node) {
-    assert!(rt; node.next_frame().is_none());
-}
-
-#[test]
-fn a_node_between_two_others_repeats(rt: HostRuntime) {
-    on_three_nodes(&rt, rt.alloc(), Trial::Repeats);
-}
-
-/// N0AAA reaches N0CCC over N0BBB: its set-up and the answer are taken only once they are repeated.
-fn repeat(rt: &impl Abort, a: &mut Node, b: &mut Node, c: &mut Node) {
-    meet(rt, a, c);
-    reach_over(rt, a);
-    all_hear(rt, a, b, c, WrittenAs::Modulo8);
-    expect_silent(rt, c);
-    all_hear(rt, b, a, c, WrittenAs::AsItCame);
-    expect_silent(rt, a);
-    expect_silent(rt, b);
-    all_hear(rt, c, a, b, WrittenAs::Modulo8);
-    expect_silent(rt, a);
-    all_hear(rt, b, a, c, WrittenAs::AsItCame);
-    assert!(rt; a.circuits().router().carrier().link(&c_call()).is_some());
-    assert!(rt; a.next_frame().is_some());
-}
-
-/// N0AAA asks for a circuit with N0CCC, to which its path leads over N0BBB.
-fn reach_over(rt: &impl Abort, a: &mut Node) {
-    let mut path = Path::new();
-    path.push(Address {
-        call: b_call(),
-        bit7: false,
-        reserved: 3,
-    });
-    assert!(rt; a.set_path(&c_call(), &path).is_ok());
-    connect(rt, a, c_call());
-}
-
-/// The next frame of a node, which was written so, comes to all, to itself too.
-fn all_hear(rt: &impl Abort, from: &mut Node, second: &mut Node, third: &mut Node, how: WrittenAs) {
-    match from.next_frame() {
-        Some(frame) => {
-            hand(rt, from, &frame);
-            hand(rt, second, &frame);
-            hand(rt, third, &frame);
-            assert!(rt; frame.how == how);
-        }
-        None => rt.abort(),
-    }
-}
-
-#[test]
-fn a_whole_frame_ends_what_came_in_bytes(rt: HostRuntime) {
-    on_three_nodes(&rt, rt.alloc(), Trial::WholeFrame);
 }
 
 /// The round of N0AAA comes to N0BBB in KISS bytes, but for the last one, and then that of N0CCC as a whole frame. Both are heard.

@@ -1,5 +1,5 @@
 //! The quality of the path to a single neighbour.
-use crate::nodes::{a_call, b_call, done, flow, node};
+use crate::nodes::{Trial, a_call, done, flow, on_three_nodes};
 use ax_address::Call;
 use node_core::{Node, QualityRefusal, UserAct};
 use std::process::Abort;
@@ -19,18 +19,21 @@ fn numbered(number: u8) -> Call {
 
 #[test]
 fn a_path_has_its_own_quality(rt: HostRuntime) {
-    let mut a = node(&rt, rt.alloc(), a_call(), false);
-    let mut b = node(&rt, rt.alloc(), b_call(), false);
-    done(&rt, &mut a, &UserAct::Round);
-    flow(&rt, &mut a, &mut b);
+    on_three_nodes(&rt, rt.alloc(), Trial::Quality);
+}
+
+/// At N0BBB, which hears the rounds of N0AAA.
+pub fn set(rt: &impl Abort, a: &mut Node, b: &mut Node) {
+    done(rt, a, &UserAct::Round);
+    flow(rt, a, b);
     for number in 0..15u8 {
         assert!(rt; b.set_quality(&numbered(number), 1) == Ok(()));
     }
-    assert!(rt; quality_of(&b, a_call()) == 192);
+    assert!(rt; quality_of(b, a_call()) == 192);
     assert!(rt; b.set_quality(&a_call(), 77) == Ok(()));
-    done(&rt, &mut a, &UserAct::Round);
-    flow(&rt, &mut a, &mut b);
-    assert!(rt; quality_of(&b, a_call()) == 77);
+    done(rt, a, &UserAct::Round);
+    flow(rt, a, b);
+    assert!(rt; quality_of(b, a_call()) == 77);
     assert!(rt; b.set_quality(&numbered(15), 1) == Err(QualityRefusal::Full));
     assert!(rt; b.set_quality(&a_call(), 78) == Ok(()));
 }

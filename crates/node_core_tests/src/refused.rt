@@ -14,10 +14,10 @@ fn a_node_is_spent(rt: HostRuntime) {
 
 /// Makes two nodes, of which the one sends the other a message, where there is memory for that.
 fn send_hello(rt: &impl Abort, alloc: Global) {
-    let Ok(mut a) = Node::new(alloc, config(a_call(), false)) else {
+    let Ok(mut a) = Node::new(alloc, config(a_call(), true)) else {
         return;
     };
-    let Ok(mut b) = Node::new(alloc, config(b_call(), false)) else {
+    let Ok(mut b) = Node::new(alloc, config(b_call(), true)) else {
         return;
     };
     if comes_over(rt, &mut a, &mut b) {

@@ -1,19 +1,18 @@
-//! What strangers send a node: a connect request too many, datagrams in another one's name, and a frame that is cut short or broken.
-ghost use Rattle.node_core.specs.Configs.{IsConfig};
-
-use crate::nodes::{NOW, a_call, b_call, config, connect, done, expect_silent, node};
-use crate::stream::{Octets, address};
+//! A frame that is cut short or broken.
+use crate::nodes::{NOW, a_call, b_call, done, node};
+use arrayvec::ArrayVec;
 use ax_address::{Alias, Call};
-use node_core::{Node, NodeConfig, UserAct};
+use node_core::{Node, UserAct};
 use std::alloc::Global;
 use std::process::Abort;
 
-/// A datagram that reaches the node may go over this many hops more; so may one of its own.
+/// A datagram that reaches the node may go over this many hops more.
 const TTL: u8 = 25;
 
-/// Control fields: UI, and information 0 and 1 of a link on which nothing and one information frame has come back.
-const UI: u8 = 0x03;
+/// A frame in octets.
+type Octets = ArrayVec<u8, 400>;
 
+/// Control fields: information 0 and 1 of a link on which nothing and one information frame has come back.
 const FIRST: u8 = 0x00;
 
 const SECOND: u8 = 0x22;
@@ -21,118 +20,9 @@ const SECOND: u8 = 0x22;
 /// An information message with the number 0, for the pair (1, 1), behind which nothing has come.
 const INFO: [u8; 7] = [1, 1, 0, 0, 0x05, b'h', b'i'];
 
-/// What is tried on a node whose datagrams go in UI frames.
-#[derive(Clone, Copy)]
-enum Trial {
-    SixtyFiveRequests,
-    AnothersName,
-}
-
-/// Makes a node, and tries this on it.
-fn on_a_node(rt: &impl Abort, alloc: Global, trial: Trial) {
-    let made = Node::new(alloc, without_links());
-    let mut node = made.ok().expect(rt, "memory");
-    match trial {
-        Trial::SixtyFiveRequests => hear_sixty_five_requests(rt, &mut node),
-        Trial::AnothersName => hear_in_anothers_name(rt, &mut node),
-    }
-}
-
-fn without_links() -> NodeConfig
-    ensures { IsConfig result }
-{
-    NodeConfig {
-        links: false,
-        ..config(a_call(), false)
-    }
-}
-
-#[test]
-fn sixty_four_requests_are_accepted_and_the_next_is_refused(rt: HostRuntime) {
-    on_a_node(&rt, rt.alloc(), Trial::SixtyFiveRequests);
-}
-
-/// Each is of another station, to which N0BBB is the way.
-fn hear_sixty_five_requests(rt: &impl Abort, node: &mut Node) {
-    for nth in 0..64u8 {
-        let accept = [7, 9, 1 + nth, 1, 0x02, 4];
-        expect_answer(rt, node, nth, &accept);
-    }
-    expect_answer(rt, node, 64, &[7, 9, 0, 0, 0x82, 0]);
-    expect_held(rt, node, 63, Some(64));
-    expect_held(rt, node, 64, None);
-}
-
-/// The request of a station, with the pair (7, 9) and window 4, is answered by this transport alone.
-fn expect_answer(rt: &impl Abort, node: &mut Node, nth: u8, answer: &[u8]) {
-    let letters = station(nth);
-    lock(rt, node, Call::read(&letters[..5]).unwrap_or_default());
-    hear(
-        rt,
-        node,
-        to_node(UI, &letters, request().as_slice()).as_slice(),
-    );
-    expect_frame(rt, node, of_node(&letters, answer).as_slice());
-    expect_silent(rt, node);
-    tell_all(node);
-}
-
-/// The letters of a station's call.
-fn station(nth: u8) -> [u8; 6] {
-    [
-        b'N',
-        b'0',
-        b'D',
-        b'A' + nth / 26 % 26,
-        b'A' + nth % 26,
-        b' ',
-    ]
-}
-
-/// The number of the nth end that is held.
-fn expect_held(rt: &impl Abort, node: &Node, nth: usize, wanted: Option<u64>) {
-    assert!(rt; node.circuits().held(nth) == wanted);
-}
-
-#[test]
-fn what_names_an_end_counts_from_its_partner_alone(rt: HostRuntime) {
-    on_a_node(&rt, rt.alloc(), Trial::AnothersName);
-}
-
-/// The node asks N0BBB for a circuit, which N0BBB accepts; both send text, and N0BBB closes. N0CCC has sent each of that before.
-fn hear_in_anothers_name(rt: &impl Abort, node: &mut Node) {
-    lock(rt, node, b_call());
-    lock(rt, node, Call::read(b"N0CCC").unwrap_or_default());
-    connect(rt, node, b_call());
-    fetch_all(node);
-    expect_of_partner(rt, node, &[1, 1, 7, 9, 0x02, 4]);
-    let act = UserAct::Write {
-        id: 1,
-        message: b"hello",
-    };
-    done(rt, node, &act);
-    fetch_all(node);
-    expect_of_partner(rt, node, &INFO);
-    expect_of_partner(rt, node, &[1, 1, 0, 1, 0x06]);
-    expect_of_partner(rt, node, &[1, 1, 0, 0, 0x03]);
-}
-
-/// A transport that comes from N0CCC changes nothing of the end and is told and answered by nothing; the same of N0BBB changes it.
-fn expect_of_partner(rt: &impl Abort, node: &mut Node, transport: &[u8]) {
-    let before = node.facts(1);
-    assert!(rt; before.is_some());
-    hear(rt, node, to_node(UI, b"N0CCC ", transport).as_slice());
-    assert!(rt; node.facts(1) == before);
-    assert!(rt; node.trace_entry().is_none());
-    expect_silent(rt, node);
-    hear(rt, node, to_node(UI, b"N0BBB ", transport).as_slice());
-    assert!(rt; node.facts(1) != before);
-    fetch_all(node);
-}
-
 #[test]
 fn a_frame_that_is_cut_short_or_broken_is_survived(rt: HostRuntime) {
-    let frame = to_node(SECOND, b"N0BBB ", &INFO);
+    let frame = to_node(SECOND, &INFO);
     for count in 0..frame.len() {
         let (front, _) = frame.as_slice().split_at(count);
         survive(&rt, rt.alloc(), front, None);
@@ -155,7 +45,7 @@ fn broken(frame: &Octets, at: usize, octet: u8) -> Octets {
 
 /// A node with one link, one end and one route takes in a frame, has no more of them then, and answers.
 fn survive(rt: &impl Abort, alloc: Global, octets: &[u8], received: Option<u64>) {
-    let mut node = node(rt, alloc, a_call(), false);
+    let mut node = node(rt, alloc, a_call(), true);
     join(rt, &mut node);
     hear(rt, &mut node, octets);
     fetch_all(&mut node);
@@ -166,13 +56,9 @@ fn survive(rt: &impl Abort, alloc: Global, octets: &[u8], received: Option<u64>)
 
 /// N0BBB sets up a link, and opens a circuit over it. Only one route is known, which leads to N0BBB.
 fn join(rt: &impl Abort, node: &mut Node) {
-    lock(rt, node, b_call());
+    lock(rt, node);
     hear(rt, node, head(0x3F).as_slice());
-    hear(
-        rt,
-        node,
-        to_node(FIRST, b"N0BBB ", request().as_slice()).as_slice(),
-    );
+    hear(rt, node, to_node(FIRST, request().as_slice()).as_slice());
     fetch_all(node);
     assert!(rt; node.circuits().router().carrier().link(&b_call()).is_some());
     assert!(rt; node.facts(1).is_some());
@@ -182,7 +68,7 @@ fn join(rt: &impl Abort, node: &mut Node) {
 fn expect_one_of_each(rt: &impl Abort, node: &Node) {
     let other = Call::read(b"N0BBB-15").unwrap_or_default();
     assert!(rt; node.circuits().router().carrier().link(&other).is_none());
-    expect_held(rt, node, 1, None);
+    assert!(rt; node.circuits().held(1) == None);
     assert_eq!(rt; node.routes().live(), 1);
 }
 
@@ -206,10 +92,10 @@ fn expect_echo(rt: &impl Abort, node: &mut Node) {
     expect_frame(rt, node, response.as_slice());
 }
 
-/// A route over N0BBB stands.
-fn lock(rt: &impl Abort, node: &mut Node, dest: Call) {
+/// N0BBB is a neighbour.
+fn lock(rt: &impl Abort, node: &mut Node) {
     let act = UserAct::Lock {
-        dest,
+        dest: b_call(),
         alias: Alias::default(),
         neighbour: b_call(),
         quality: 192,
@@ -256,29 +142,14 @@ fn head(control: u8) -> Octets {
 }
 
 /// A frame of N0BBB to the node, with a datagram to it.
-fn to_node(control: u8, origin: &[u8; 6], transport: &[u8]) -> Octets {
+fn to_node(control: u8, transport: &[u8]) -> Octets {
     let mut octets = head(control);
-    datagram(origin, b"N0AAA ", transport, &mut octets);
-    octets
-}
-
-/// A UI frame of the node to N0BBB, with a datagram of its own.
-fn of_node(dest: &[u8; 6], transport: &[u8]) -> Octets {
-    let mut octets = Octets::new();
-    address(b"N0BBB ", 0xE0, &mut octets);
-    address(b"N0AAA ", 0x61, &mut octets);
-    let _ = octets.try_push(UI);
-    datagram(b"N0AAA ", dest, transport, &mut octets);
-    octets
-}
-
-/// The PID of NET/ROM and a datagram.
-fn datagram(origin: &[u8; 6], dest: &[u8; 6], transport: &[u8], octets: &mut Octets) {
     let _ = octets.try_push(0xCF);
-    address(origin, 0x60, octets);
-    address(dest, 0x60, octets);
+    address(b"N0BBB ", 0x60, &mut octets);
+    address(b"N0AAA ", 0x60, &mut octets);
     let _ = octets.try_push(TTL);
     let _ = octets.try_extend_from_slice(transport);
+    octets
 }
 
 /// A connect request with the pair (7, 9) and window 4, for the user N0USR at N0BBB.
@@ -288,4 +159,12 @@ fn request() -> Octets {
     address(b"N0USR ", 0x60, &mut octets);
     address(b"N0BBB ", 0x60, &mut octets);
     octets
+}
+
+/// An address as AX.25 and NET/ROM write it: letters shifted, and a last octet.
+fn address(letters: &[u8; 6], last: u8, octets: &mut Octets) {
+    for letter in letters {
+        let _ = octets.try_push(letter << 1);
+    }
+    let _ = octets.try_push(last);
 }
