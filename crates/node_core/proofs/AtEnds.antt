@@ -1,5 +1,5 @@
 -- Acts at ends: the end that is asked about is the one at which it is done, and an act at a link is none of these.
-use Rattle.std.proofs.Common.{◌≡◌, ◌∙◌, sym, ap, inl, inr, refl}
+use Rattle.std.proofs.Common.{◌≡◌, ◌∙◌, sym, ap, inl, inr}
 use Rattle.std.specs.Prelude.{ℕ, ◌⊎◌, Bool, true, false, List, Result}
 use Rattle.std.specs.Borrow.{Bor}
 use Rattle.arrayvec.specs.ArrayVec.{ArrayVec}

@@ -63,7 +63,8 @@ impl Station {
             UserAct::TakeText(_)
             | UserAct::SendText { .. }
             | UserAct::OpenLink { .. }
-            | UserAct::CloseLink(_) if !self.hosts => Err(ActRefusal::Served),
+            | UserAct::CloseLink(_)
+                if !self.hosts => Err(ActRefusal::Served),
             UserAct::TakeText(peer) => self.take_hosted(peer, now),
             UserAct::SendText { to, text } => self.send_hosted(to, text, now),
             UserAct::OpenLink { to, path } => self.open_hosted(to, path, now),
