@@ -1,0 +1,6 @@
+pub mod Calls
+pub mod Lasts
+pub mod Remembering
+pub mod Readdressing
+pub mod AliasCalls
+pub mod HeldFrames

@@ -1,0 +1,4 @@
+pub mod Commands
+pub mod MailCommands
+pub mod Asked
+pub mod Replies
