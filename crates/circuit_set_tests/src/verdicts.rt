@@ -28,47 +28,68 @@ fn datagram(node: u64, ttl: u8, transport: &[u8]) -> Datagram {
     write_datagram(&head, transport).unwrap_or_default()
 }
 
-/// This is told of a node's first end.
-fn tell(rt: &impl Abort, verdict: &mut Verdict, line: u32, node: u64, told: CircuitTold<'_>) {
-    let own = call_of(node);
-    let heeded = verdict.heed(&Event { node, own, told }, line);
-    assert!(rt; heeded == Ok(()));
+/// A verdict, and the line of the event that it was told last.
+#[derive(Drop)]
+struct Trial {
+    verdict: Verdict,
+    line: u32,
 }
 
-fn made(node: u64, request: Option<&[u8]>) -> CircuitTold<'_> {
-    CircuitTold::Made {
-        id: 1,
-        pair: FIRST,
-        partner: partner_of(node),
-        request,
+impl Trial {
+    /// This is told at the line after the last one.
+    fn tell(&mut self, rt: &impl Abort, event: &Event<'_>) {
+        let line = self.line.saturating_add(1);
+        self.line = line;
+        let heeded = self.verdict.heed(event, line);
+        assert!(rt; heeded == Ok(()));
     }
+
+    fn made(&mut self, rt: &impl Abort, node: u64, request: Option<&[u8]>) {
+        let told = CircuitTold::Made {
+            id: 1,
+            pair: FIRST,
+            partner: partner_of(node),
+            request,
+        };
+        let own = call_of(node);
+        self.tell(rt, &Event { node, own, told });
+    }
+
+    fn sent(&mut self, rt: &impl Abort, node: u64, datagram: &[u8]) {
+        let told = CircuitTold::Sent {
+            id: 1,
+            number: None,
+            datagram,
+        };
+        let own = call_of(node);
+        self.tell(rt, &Event { node, own, told });
+    }
+
+    fn heeded(&mut self, rt: &impl Abort, node: u64, datagram: &[u8]) {
+        let told = CircuitTold::Heeded { id: 1, datagram };
+        let own = call_of(node);
+        self.tell(rt, &Event { node, own, told });
+    }
+}
+
+fn overtaken(line: u32) -> Option<Late> {
+    let why = LateWhy::Overtaken;
+    Some(Late { line, why })
 }
 
 /// What is heeded at `Verdict`, and the verdict before and behind it.
 #[test]
 fn a_verdict_in_use(rt: HostRuntime) {
-    let mut verdict = Verdict::new(rt.alloc(), Allowance::OfWindow);
+    let mut trial = Trial {
+        verdict: Verdict::new(rt.alloc(), Allowance::OfWindow),
+        line: 0,
+    };
     let request = datagram(1, 25, &[1, 1, 0, 0, 1]);
     let accept = datagram(2, 25, &[1, 1, 1, 1, 2, 4]);
-    tell(&rt, &mut verdict, 1, 1, made(1, None));
-    let datagram = request.as_slice();
-    let (id, number) = (1, None);
-    let sent = CircuitTold::Sent {
-        id,
-        number,
-        datagram,
-    };
-    tell(&rt, &mut verdict, 2, 1, sent);
-    tell(&rt, &mut verdict, 3, 2, made(2, Some(datagram)));
-    assert_eq!(rt; verdict.late(), None);
-    let datagram = accept.as_slice();
-    tell(
-        &rt,
-        &mut verdict,
-        4,
-        1,
-        CircuitTold::Heeded { id, datagram },
-    );
-    let (line, why) = (4, LateWhy::Overtaken);
-    assert_eq!(rt; verdict.late(), Some(Late { line, why }));
+    trial.made(&rt, 1, None);
+    trial.sent(&rt, 1, request.as_slice());
+    trial.made(&rt, 2, Some(request.as_slice()));
+    assert_eq!(rt; trial.verdict.late(), None);
+    trial.heeded(&rt, 1, accept.as_slice());
+    assert_eq!(rt; trial.verdict.late(), overtaken(4));
 }

@@ -1,7 +1,6 @@
 //! A circuit that is asked for in a user's name.
-use crate::nodes::{NOW, Trial, a_call, b_call, done, flow, meet, on_three_nodes};
+use crate::nodes::{NOW, Trial, b_call, done, flow, meet, on_three_nodes};
 use ax_address::{Alias, Call};
-use circuit_l4::{Transport, read_transport};
 use circuit_table::SetEvent;
 use node_core::{ActDone, Node, NodeEntry, UserAct};
 use radio_base::Moment;
@@ -11,8 +10,21 @@ fn user_call() -> Call {
     Call::read(b"N0USR-7").unwrap_or_default()
 }
 
-/// The user of the request that has opened the first end.
-fn user_of(node: &mut Node) -> Option<Call> {
+/// N0USR-7 and N0AAA as users of a request (NET/ROM, Appendix B).
+const NAMED: [u8; 7] = [0x9C, 0x60, 0xAA, 0xA6, 0xA4, 0x40, 0x6E];
+
+const OWN: [u8; 7] = [0x9C, 0x60, 0x82, 0x82, 0x82, 0x40, 0x60];
+
+/// Whether the user stands there. A UI frame has 16 octets before a datagram, that 15 before a request, and that 6 before the user.
+fn has_user(octets: &[u8], at: usize, user: &[u8]) -> bool {
+    match octets.get(at..) {
+        Some(rest) => rest.starts_with(user),
+        None => false,
+    }
+}
+
+/// Whether the request that has opened an end is this user's.
+fn was_asked(node: &mut Node, user: &[u8]) -> bool {
     for _ in 0..100 {
         if let Some(
             NodeEntry::Set(
@@ -23,18 +35,10 @@ fn user_of(node: &mut Node) -> Option<Call> {
             ),
         ) = node.trace_entry()
         {
-            return user_behind(datagram.as_slice(), 15);
+            return has_user(datagram.as_slice(), 21, user);
         }
     }
-    None
-}
-
-/// The user of the request that stands behind so many octets.
-fn user_behind(octets: &[u8], front: usize) -> Option<Call> {
-    match read_transport(octets.get(front..)?) {
-        Ok(Transport::Request { user, .. }) => Some(user),
-        _ => None,
-    }
+    false
 }
 
 #[test]
@@ -47,7 +51,7 @@ pub fn ask(rt: &impl Abort, a: &mut Node, b: &mut Node) {
     meet(rt, a, b);
     ask_for_user(rt, a);
     flow(rt, a, b);
-    assert!(rt; user_of(b) == Some(user_call()));
+    assert!(rt; was_asked(b, &NAMED));
     assert!(rt;
         matches!(
             a.act(&UserAct::Connect(b_call()), NOW),
@@ -55,7 +59,7 @@ pub fn ask(rt: &impl Abort, a: &mut Node, b: &mut Node) {
         )
     );
     flow(rt, a, b);
-    assert!(rt; user_of(b) == Some(a_call()));
+    assert!(rt; was_asked(b, &OWN));
 }
 
 fn ask_for_user(rt: &impl Abort, a: &mut Node) {
@@ -81,14 +85,16 @@ pub fn repeat(rt: &impl Abort, a: &mut Node) {
     };
     done(rt, a, &lock);
     ask_for_user(rt, a);
-    assert!(rt; user_sent(a) == Some(user_call()));
-    assert!(rt; user_sent(a) == None);
+    assert!(rt; asks(a, &NAMED));
+    assert!(rt; !asks(a, &[]));
     assert!(rt; a.tick(Moment(60_000)) == Ok(()));
-    assert!(rt; user_sent(a) == Some(user_call()));
+    assert!(rt; asks(a, &NAMED));
 }
 
-/// The user of the request in the next frame: 16 octets of a UI frame and 15 of a datagram go before.
-fn user_sent(a: &mut Node) -> Option<Call> {
-    let frame = a.next_frame()?;
-    user_behind(frame.octets.as_slice(), 31)
+/// Whether a frame waits, with a request of this user.
+fn asks(a: &mut Node, user: &[u8]) -> bool {
+    match a.next_frame() {
+        Some(frame) => has_user(frame.octets.as_slice(), 37, user),
+        None => false,
+    }
 }

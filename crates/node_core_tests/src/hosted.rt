@@ -169,10 +169,9 @@ fn expect_sent(rt: &impl Abort, node: &mut Node, addresses: &[u8], rest: &[u8]) 
 }
 
 fn expect_told(rt: &impl Abort, node: &mut Node, notice: LinkNotice) {
-    match node.trace_entry() {
-        Some(NodeEntry::Link(peer, told)) => assert!(rt; peer == station() && told == notice),
-        _ => rt.abort(),
-    }
+    let told = node.trace_entry();
+    let wanted = NodeEntry::Link(station(), notice);
+    assert!(rt; told == Some(wanted));
 }
 
 #[test]

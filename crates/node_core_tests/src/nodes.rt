@@ -1,4 +1,5 @@
 //! Whole nodes, joined by lists of frames, and what is tried on them.
+ghost use Rattle.std.specs.Prelude.{◌≡◌, false};
 ghost use Rattle.node_core.specs.Configs.{IsConfig};
 
 use crate::{for_user, hosted, qualities};
@@ -18,7 +19,8 @@ pub const NOW: Moment = Moment(0);
 
 /// The settings of a node of this call.
 pub fn config(call: Call, links: bool) -> NodeConfig
-    ensures { IsConfig result }
+    ensures good { IsConfig result }
+    ensures prompt { result.prompt ≡ false }
 {
     NodeConfig {
         call,

@@ -45,11 +45,11 @@ fn a_link_is_asked_for_by_port(rt: HostRuntime) {
 fn expect_nodes(rt: &impl Abort, alloc: Global, line: &[u8], front: &[u8]) {
     let capitals = capitals_of(alloc, line).ok().expect(rt, "memory");
     let words = words_of(alloc, &capitals).ok().expect(rt, "memory");
-    let begins = match command_of(&words) {
-        Ok(Command::Nodes(NodesAsked::Beginning(word))) => Some(word),
-        _ => None,
+    let is_asked = match command_of(&words) {
+        Ok(Command::Nodes(NodesAsked::Beginning(word))) => word == front,
+        _ => false,
     };
-    assert!(rt; begins == Some(front));
+    assert!(rt; is_asked);
 }
 
 #[test]
