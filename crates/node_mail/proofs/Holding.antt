@@ -2,13 +2,13 @@
 use Rattle.std.proofs.Common.{◌≡◌, ℕ, ◌≤◌, List, length, Bool, true, false, Some, refl, cond, inl, inr}
 use Rattle.std.specs.Prelude.{◌⊎◌}
 use Rattle.std.specs.List.{AllByRecursion}
+use Rattle.radio_base.proofs.Each.{each_map, each_push}
 use Rattle.ax_address.specs.Callsign.{Callsign, same_call}
+use Rattle.ax_address.proofs.SameCalls.{same_call-true}
 use Rattle.node_mail.specs.Wires.{Receipt, IsWire, IsNumber, wire_octets}
 use Rattle.node_mail.specs.Lists.{Lists, Letter, Mail, letter_of, is_stored, offer}
 use Rattle.node_mail.specs.Runs.{MailRun, Written, with_store, with_written}
 use Rattle.node_mail.specs.MailOnce.{IsKept, posted_as}
-use Rattle.node_mail.proofs.Calls.{same_call-true}
-use Rattle.node_mail.proofs.Each.{each_map, each_push}
 use Rattle.node_mail.proofs.Letters.{Differ}
 
 -- what one node keeps

@@ -1,5 +1,3 @@
-pub mod Calls
-pub mod Each
 pub mod Letters
 pub mod Queues
 pub mod Mailboxes
@@ -7,3 +5,4 @@ pub mod Spelling
 pub mod Holding
 pub mod Steps
 pub mod Once
+pub mod Asked

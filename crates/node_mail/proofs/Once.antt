@@ -1,10 +1,10 @@
 -- Mail is stored once.
 use Rattle.std.proofs.Common.{◌≡◌, ◌∙◌, Some, ap}
+use Rattle.radio_base.proofs.Each.{each_map}
 use Rattle.node_mail.specs.Wires.{SpelledWireIsRead, WrittenWireSpellsIt, wire_octets}
 use Rattle.node_mail.specs.Lists.{Mail, letter_of}
 use Rattle.node_mail.specs.Runs.{HoldsMailOnce, MailIsStoredOnce, MailRun, begin, run}
 use Rattle.node_mail.specs.MailOnce.{posted_as}
-use Rattle.node_mail.proofs.Each.{each_map}
 use Rattle.node_mail.proofs.Letters.{numbers_differ}
 use Rattle.node_mail.proofs.Holding.{Holds, CameFrom}
 use Rattle.node_mail.proofs.Steps.{ReadsBack, run_keeps, begin_holds}

@@ -1,13 +1,14 @@
 -- Mails that are queued, by their places.
 use Rattle.std.proofs.Common.{◌≡◌, ◌≢◌, ℕ, zero, suc, ◌+◌, ◌<◌, ◌≤◌, List, [], ◌∷◌, ◌++◌, length, Bool, true, false, Some, None, refl, sym, ap, cond, arith, get_or}
-use Rattle.std.specs.Prelude.{◌||◌, ◌==◌, not, remove}
+use Rattle.std.specs.Prelude.{◌==◌, not, remove}
 use Rattle.std.specs.List.{AllByRecursion}
 use Rattle.std.proofs.lemmas.Bool.{eq-eqb}
+use Rattle.std.proofs.Math.Bool.{or-false}
+use Rattle.radio_base.proofs.Each.{each_map, each_push, each_filter}
 use Rattle.ax_address.specs.Callsign.{Callsign, same_call}
 use Rattle.node_mail.specs.declared.queued_mails.QueuedMail.{QueuedMail}
 use Rattle.node_mail.specs.Lists.{Letter, letter_of, is_queued_for, without}
 use Rattle.node_mail.specs.Queues.{HasNone, IsInOrder, IsLetter, Rises, letter_in, letters}
-use Rattle.node_mail.proofs.Each.{each_map, each_push, each_filter}
 use Rattle.node_mail.proofs.Letters.{other}
 
 pub each_get : (P : Letter → Type 0) (qs : List QueuedMail) (i : ℕ) (d : QueuedMail) → AllByRecursion P (letters qs) → i < length qs → P (letter_in (get_or qs i d))
@@ -53,13 +54,9 @@ found_of n [] i d r k e = absurd (omega (arith, k))
 found_of n (q ∷ qs) zero d r k e = let s : (q.number == n) ≡ true = eq-eqb q.number n e in rw s refl
 found_of n (q ∷ qs) (suc i) d r k e = let s = before_it n q qs i d r.0 (omega (arith, k)) e in rw s (found_of n qs i d r.1 (omega (arith, k)) e)
 
-or_none : (b : Bool) → (b || false) ≡ b
-or_none true = refl
-or_none false = refl
-
 pub found_for : (n : ℕ) (dest : Callsign) (qs : List QueuedMail) (i : ℕ) (d : QueuedMail) → Rises (letters qs) → i < length qs → (get_or qs i d).number ≡ n → is_queued_for (letters qs) dest n ≡ same_call (get_or qs i d).dest dest
 found_for n dest [] i d r k e = absurd (omega (arith, k))
-found_for n dest (q ∷ qs) zero d r k e = let s : (q.number == n) ≡ true = eq-eqb q.number n e in rw (s, none_for n dest (letters qs) (behind n (letter_in q) (letters qs) r.0 e)) (or_none (same_call q.dest dest))
+found_for n dest (q ∷ qs) zero d r k e = let s : (q.number == n) ≡ true = eq-eqb q.number n e in rw (s, none_for n dest (letters qs) (behind n (letter_in q) (letters qs) r.0 e)) (or-false (same_call q.dest dest))
 found_for n dest (q ∷ qs) (suc i) d r k e = let s = before_it n q qs i d r.0 (omega (arith, k)) e in rw s (found_for n dest qs i d r.1 (omega (arith, k)) e)
 
 pub found_without : (n : ℕ) (qs : List QueuedMail) (i : ℕ) (d : QueuedMail) → Rises (letters qs) → i < length qs → (get_or qs i d).number ≡ n → letters (remove qs i) ≡ without n (letters qs)

@@ -1,23 +1,16 @@
 -- What is spelled is read, and what is written spells it.
-use Rattle.std.proofs.Common.{◌≡◌, ◌+◌, ◌-◌, ◌*◌, ◌≤◌, ◌++◌, ◌∙◌, ℕ, refl, sym, ap, List, [], ◌∷◌, length, replicate, map, take, drop, Some, None, Result, Ok, Err, Bool, true, false, cond, arith}
+use Rattle.std.proofs.Common.{◌≡◌, ◌+◌, ◌-◌, ◌≤◌, ◌++◌, ◌∙◌, ℕ, refl, sym, ap, List, [], ◌∷◌, length, take, drop, Some, None, Result, Ok, Err, Bool, true, false, cond, arith}
 use Rattle.std.specs.Prelude.{◌&&◌, ◌==◌}
 use Rattle.std.specs.Int.{w64, to_be_bytes, from_be_bytes}
 use Rattle.std.proofs.lemmas.Bool.Decides.{nat_tests}
 use Rattle.std.proofs.lemmas.Nat.{from_be_bytes-to_be_bytes_8}
-use Rattle.std.proofs.lemmas.List.{take_at, length-append, length-map, length-replicate}
+use Rattle.std.proofs.lemmas.List.{take_at, length-append}
 use Rattle.std.proofs.Math.Seq.{drop-append-add}
-use Rattle.ax_address.specs.Callsign.{Callsign, name_in, padded}
+use Rattle.ax_address.specs.Callsign.{Callsign}
 use Rattle.ax_address.specs.Octets.{SpellsNetCall, SpelledNetCallIsRead, WrittenNetCallSpellsIt, net_call_at, net_call_octets}
 use Rattle.ax_address.specs.declared.address_refusal.AddressRefusal.{AddressRefusal}
+use Rattle.l3_datagram.proofs.Spelling.{seven}
 use Rattle.node_mail.specs.Wires.{Wire, Carries, Receipt, IsNumber, IsText, Spells, SpellsNumber, SpelledWireIsRead, WrittenWireSpellsIt, is_number, is_mail_size, carried, mail_at, receipt_at, wire_at, wire_octets}
-
-seven : (c : Callsign) (octets : List ℕ) → SpellsNetCall c octets → length octets ≡ 7
-seven c octets h =
-    let name = name_in c.letters in
-    let doubled = map (λ b. 2 * b) c.letters in
-    let six : length (padded name) ≡ 6 = omega (arith, length-append name (replicate (6 - length name) 32), length-replicate {A = ℕ} (6 - length name) 32, h.is_call.six) in
-    let long : length doubled ≡ 6 = length-map c.letters (λ b. 2 * b) ∙ (ap length h.is_call.spaces ∙ six) in
-    ap length h.spelled ∙ omega (arith, length-append doubled (h.last ∷ []), long)
 
 number_is : (n : ℕ) → IsNumber n → is_number n ≡ true
 number_is n h = let a = h.some in let b = h.most in grind (arith, nat_tests, a, b)

@@ -4,15 +4,15 @@ use Rattle.std.specs.Prelude.{◌==◌, nat_lt, nat_le, not, slice_get, if◌the
 use Rattle.std.specs.List.{AllByRecursion}
 use Rattle.std.proofs.lemmas.Bool.{eqb-true, eq-eqb}
 use Rattle.std.proofs.lemmas.Bool.Decides.{nat_tests}
+use Rattle.radio_base.proofs.Each.{each_map, each_both, each_push, each_at, each_filter}
 use Rattle.ax_address.specs.Callsign.{Callsign, IsCallsign, same_call}
+use Rattle.ax_address.proofs.SameCalls.{same_call-equal}
 use Rattle.node_mail.specs.Wires.{Wire, Carries, Receipt, IsWire, IsNumber, IsText, wire_at, wire_octets}
 use Rattle.node_mail.specs.Lists.{Lists, Letter, Mail, Heard, PostRefusal, letter_of, is_stored, is_queued_for, offer, without, post_at, posted_by, with_letter, mail_of, heard_of, kept_after, answer_to, text_of, nothing_kept}
 use Rattle.node_mail.specs.declared.post_refusal.PostRefusal.TheVariants as refusal
 use Rattle.node_mail.specs.declared.heard.Heard.TheVariants.{Stored, Again, Settled, Stray, Full}
 use Rattle.node_mail.specs.Runs.{MailRun, Written, Event, Posts, Writes, Says, Hears, IsEvent, with_store, posts, writes, writes_letter, says, answers, hears, hears_by, happens, begin, run}
 use Rattle.node_mail.specs.MailOnce.{IsKept}
-use Rattle.node_mail.proofs.Calls.{same_call-equal}
-use Rattle.node_mail.proofs.Each.{each_map, each_both, each_push, each_at, each_filter}
 use Rattle.node_mail.proofs.Letters.{still_of, of_has, last_of, of_without, IsQueued, queued, still_stored, now_stored, differ_push}
 use Rattle.node_mail.proofs.Spelling.{read_mail_number}
 use Rattle.node_mail.proofs.Holding.{Sound, Tells, ToldBy, CameFrom, Keeps, Holds, stays, replaced, said}

@@ -1,5 +1,5 @@
 -- What a node keeps of mail, what each call does to it, and when what a store keeps stands for it. Own profile.
-use Rattle.std.specs.Prelude.{ℕ, ◌+◌, List, [], ◌∷◌, ◌++◌, length, filter, Bool, ◌&&◌, ◌==◌, not, nat_lt, nat_le, Option, Some, None, Result, Ok, Err, if◌then◌else◌, ◌≡◌, IsOk}
+use Rattle.std.specs.Prelude.{ℕ, ◌+◌, List, [], ◌∷◌, ◌++◌, length, drop, filter, Bool, ◌&&◌, ◌==◌, not, nat_lt, nat_le, Option, Some, None, Result, Ok, Err, if◌then◌else◌, ◌≡◌, IsOk}
 use Rattle.std.specs.List.{list_any}
 use Rattle.radio_base.specs.declared.modulus.TheConstants.{COUNT_MAX}
 use Rattle.ax_address.specs.Callsign.{Callsign, same_call}
@@ -8,7 +8,7 @@ pub use Rattle.node_mail.specs.declared.heard.Heard.{Heard}
 use Rattle.node_mail.specs.declared.heard.Heard.TheVariants.{Stored, Again, Settled, Stray, Full, Bad}
 pub use Rattle.node_mail.specs.declared.post_refusal.PostRefusal.{PostRefusal}
 use Rattle.node_mail.specs.declared.post_refusal.PostRefusal.TheVariants as refusal
-use Rattle.node_mail.specs.Wires.{Wire, Carries, Receipt, wire_at, Spells, wire_octets}
+use Rattle.node_mail.specs.Wires.{Wire, Carries, Receipt, wire_at, Spells, wire_octets, IsNumber, IsText}
 
 -- a mail as it was posted
 pub record Letter : Type 0 where
@@ -124,6 +124,12 @@ hear_at s from octets = heard_of s from (wire_at octets)
 
 abbrev pub hear_step : Lists → Callsign → List ℕ → Lists
 hear_step s from octets = kept_after s from (text_of (wire_at octets)) (hear_at s from octets)
+
+-- A mail that would be stored has a number, and its text behind 16 octets; one that is settled has a number.
+abbrev pub IsHeardIn : List ℕ → Heard → Type 0
+IsHeardIn octets (Stored number to) = IsNumber number × IsText (drop 16 octets)
+IsHeardIn octets (Settled number) = IsNumber number
+IsHeardIn octets _ = Unit {0}
 
 -- What a store keeps stands for the lists: of the mails that were posted it keeps those that are queued, and the number
 -- of the last.

@@ -1,4 +1,4 @@
-//! What became of a message that was heard. Own profile.
+//! What became of a message that was heard. Own profile. Used by `hearing` and `store`, and by the replay.
 use ax_address::Call;
 
 /// What became of a message that was heard.

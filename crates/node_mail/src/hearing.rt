@@ -57,7 +57,7 @@ pub(crate) fn hear_receipt(queue: &mut Queue, from: &Call, number: u64) -> Heard
 }
 
 /// A mail, of which the text is short enough.
-fn mail_of(origin: &Call, number: u64, to: &Call, text: &[u8]) -> Mail
+pub(crate) fn mail_of(origin: &Call, number: u64, to: &Call, text: &[u8]) -> Mail
     requires { length text.now ≤ 1024 }
     ensures { result ≡ lists.mail_of origin.now number to.now text.now }
 {

@@ -1,4 +1,4 @@
-//! What the definitions promise by themselves: how messages are spelled, and that mail is stored once.
+//! Laws of the definitions of mail alone: how messages are spelled, and that mail is stored once. Called by the laws of the replay.
 ghost use Rattle.std.specs.Prelude.{◌≡◌};
 ghost use Rattle.node_mail.specs.Runs.{MailIsStoredOnce};
 ghost use Rattle.node_mail.specs.Wires.{SpelledWireIsRead, WrittenWireSpellsIt};

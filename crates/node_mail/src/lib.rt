@@ -5,6 +5,7 @@
 //! node's circuits, and hands what comes by them to `Store::hear`.
 #![tactic(auto)]
 
+mod asking;
 mod heard;
 mod hearing;
 pub mod laws;
@@ -22,3 +23,4 @@ pub use heard::Heard;
 pub use mail::{MAX_MAIL, MAX_QUEUED, MAX_STORED, Mail};
 pub use post_refusal::PostRefusal;
 pub use store::Store;
+pub use write::write_receipt;

@@ -1,4 +1,4 @@
-//! Mail, and what tells one from all others. Own profile.
+//! Mail, and what tells one from all others. Own profile. Used by most files here.
 use arrayvec::ArrayVec;
 use ax_address::Call;
 

@@ -1,4 +1,4 @@
-//! Why a mail isn't posted. Own profile.
+//! Why a mail isn't posted. Own profile. Used by `queue` and `store`, and by the replay.
 use radio_base::NoMemory;
 
 /// Why a mail isn't posted. Where several reasons stand together, the first of them is told.

@@ -115,6 +115,29 @@ impl Queue {
         wire_at(self.mails.as_slice(), number, out)
     }
 
+    /// Whether the mail of a number is queued for that node.
+    pub(crate) fn has_for(&self, dest: &Call, number: u64) -> bool
+        ensures { result ≡ is_queued_for self.now.letters dest.now number }
+    {
+        place_for(self.mails.as_slice(), dest, number).is_some()
+    }
+
+    /// Takes the mail of a number away, where it is queued.
+    pub(crate) fn take_away(&mut self, number: u64) -> bool
+        ensures answer { result ≡ is_some (letter_of number self.old.letters) }
+        ensures settled { result ≡ true → self.new.letters ≡ without number self.old.letters }
+        ensures same { result ≡ false → self.new ≡ self.old }
+        ensures last { self.new.last ≡ self.old.last }
+    {
+        match place_of(self.mails.as_slice(), number) {
+            Some(at) => {
+                self.mails.remove(at);
+                true
+            }
+            None => false,
+        }
+    }
+
     /// Takes the mail of a number away, where it is queued for that node.
     pub(crate) fn settle(&mut self, dest: &Call, number: u64) -> bool
         ensures answer { result ≡ is_queued_for self.old.letters dest.now number }

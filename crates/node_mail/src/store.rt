@@ -1,4 +1,4 @@
-//! The mail of a node: its public calls. Own profile.
+//! The mail of a node: its public calls. Own profile. Called by the replay and `trace_lines`.
 use crate::heard::Heard;
 use crate::hearing::{hear_mail, hear_receipt};
 use crate::mail::Mail;
@@ -12,6 +12,8 @@ use l3_datagram::Message;
 use radio_base::NoMemory;
 use std::alloc::Global;
 use std::marker::Model;
+
+mod again;
 
 /// The mail that a node keeps: what was posted there for users at other nodes, until it is settled, and what is stored
 /// there for its own users.

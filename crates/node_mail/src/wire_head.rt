@@ -1,4 +1,4 @@
-//! The heads of messages about mail. Own profile.
+//! The heads of messages about mail. Own profile. Used by `read` and `store`.
 use ax_address::Call;
 
 /// Where the text of a mail begins in its message.

@@ -20,9 +20,9 @@ pub(crate) fn write_mail(number: u64, to: &Call, text: &[u8], out: &mut Message)
     let _ = out.try_extend_from_slice(text);
 }
 
-/// Writes a receipt.
+/// Writes a receipt, in place of what was there.
 #[tactic(auto, unfolding(crate::specs::Wires::wire_octets))]
-pub(crate) fn write_receipt(number: u64, out: &mut Message)
+pub fn write_receipt(number: u64, out: &mut Message)
     ensures { out.new.items ≡ wires.wire_octets (wires.Receipt number) }
 {
     out.clear();

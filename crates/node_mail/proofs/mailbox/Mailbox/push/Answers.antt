@@ -1,10 +1,10 @@
 use Rattle.std.proofs.Common.{◌≡◌, ◌∙◌, ap, refl}
 use Rattle.std.specs.Map.{values_of}
 use Rattle.indexmap.proofs.CallerLemmas.{insert_entry-new}
+use Rattle.radio_base.proofs.Each.{each_push}
 use Rattle.node_mail.specs.Mailboxes.{name_of}
 use Rattle.node_mail.specs.declared.mail.Mail.{Mail}
 use Rattle.node_mail.specs.declared.mail.MailName.{MailName}
-use Rattle.node_mail.proofs.Each.{each_push}
 use Rattle.node_mail.proofs.Mailboxes.{same_name, not_found, values_push}
 use Rattle.node_mail.proofs.mailbox.Mailbox.push.Goals as goal
 

@@ -1,0 +1,4 @@
+pub mod Again
+pub mod AsMail
+pub mod Following
+pub mod Keeping

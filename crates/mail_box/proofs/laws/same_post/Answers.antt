@@ -1,0 +1,5 @@
+use Rattle.mail_box.proofs.Again.{same_mails}
+use Rattle.mail_box.proofs.laws.same_post.Goals as goal
+
+pub returns : goal.returns
+returns g c kept k j own = same_mails _ _ _ _ _ _ kept k j own

@@ -1,0 +1,5 @@
+use Rattle.mail_box.proofs.Keeping.{more}
+use Rattle.mail_box.proofs.post_mail.MailBox.read.Goals as goal
+
+pub returns-clause-crash : goal.returns-clause-crash
+returns-clause-crash g c clean kept found held may = more _ kept found _ (c.keep.ensures.crash clean kept found held may)

@@ -1,0 +1,4 @@
+pub mod Boxes
+pub mod Kept
+pub mod Refused
+pub mod Steps

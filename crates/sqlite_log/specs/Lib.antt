@@ -1,0 +1,5 @@
+pub mod Held
+pub mod Laws
+pub mod Opening
+pub mod Reading
+pub mod Table
