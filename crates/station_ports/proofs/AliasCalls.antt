@@ -6,7 +6,7 @@ use Rattle.std.proofs.lemmas.Bool.{lt-ltb}
 use Rattle.std.proofs.lemmas.List.{same_from_push}
 use Rattle.ax_address.specs.Callsign.{Callsign, IsCallsign, IsCallChar, name_in}
 use Rattle.ax_address.specs.Octets.{SpellsNetCall}
-use Rattle.station_ports.proofs.Readdressing.{doubles}
+use Rattle.ax_address.proofs.CallOctets.{doubles}
 
 halves-doubles : (xs : List ℕ) → map (λ b. b / 2) (doubles xs) ≡ xs
 halves-doubles [] = refl

@@ -1,4 +1,3 @@
-pub mod Calls
 pub mod Lasts
 pub mod Remembering
 pub mod Readdressing

@@ -1,24 +1,17 @@
 -- Frames that get another destination or source.
-use Rattle.std.proofs.Common.{◌≡◌, ◌≤◌, ◌+◌, ◌-◌, ◌*◌, ◌∙◌, ℕ, Bool, true, false, if◌then◌else◌, List, [], ◌∷◌, ◌++◌, map, length, take, drop, replicate, slice_index, refl, sym, ap, arith}
-use Rattle.std.proofs.lemmas.List.{append_assoc, append-nil, length-append, length-map, length-replicate, take_at, drop_at, drop-drop, get_or-append-add, get_or_at}
+use Rattle.std.proofs.Common.{◌≡◌, ◌≤◌, ◌+◌, ◌-◌, ◌*◌, ◌∙◌, ℕ, Bool, true, false, if◌then◌else◌, List, [], ◌∷◌, ◌++◌, length, take, drop, slice_index, refl, sym, ap, arith}
+use Rattle.std.proofs.lemmas.List.{append_assoc, append-nil, length-append, length-map, take_at, drop_at, drop-drop, get_or-append-add, get_or_at}
 use Rattle.ax_address.specs.declared.address.Address.{Address}
-use Rattle.ax_address.specs.Callsign.{Callsign, IsCallsign, name_in, padded}
+use Rattle.ax_address.specs.Callsign.{Callsign, IsCallsign}
 use Rattle.ax_address.specs.Octets.{address_octets, ssid_octet}
+use Rattle.ax_address.proofs.CallOctets.{doubles}
 use Rattle.ax_frame.specs.declared.head.Head.{Head}
 use Rattle.ax_frame.specs.Frames.{addresses_octets, pid_octets, SpellsHead}
 use Rattle.ax_frame.specs.Controls.{control_octets}
+use Rattle.ax_frame.proofs.Addresses.{six_letters}
 use Rattle.station_ports.specs.Headings.{is_direct}
 use Rattle.station_ports.specs.Readdressed.{with_ssid, with_call_at, address_of}
 use Rattle.station_ports.specs.Laws.{SpellsWithDest, SpellsWithSource}
-
-abbrev pub doubles : List ℕ → List ℕ
-doubles letters = map (λ b. 2 * b) letters
-
-pub six_letters : (letters : List ℕ) (ssid : ℕ) → IsCallsign letters ssid → length letters ≡ 6
-six_letters letters ssid h =
-    let name = name_in letters in
-    let six : length (padded name) ≡ 6 = omega (arith, length-append name (replicate (6 - length name) 32), length-replicate {A = ℕ} (6 - length name) 32, h.six) in
-    ap length h.spaces ∙ six
 
 pub six_doubles : (letters : List ℕ) (ssid : ℕ) → IsCallsign letters ssid → length (doubles letters) ≡ 6
 six_doubles letters ssid h = length-map letters (λ b. 2 * b) ∙ six_letters letters ssid h

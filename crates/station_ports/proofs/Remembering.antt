@@ -8,9 +8,9 @@ use Rattle.std.specs.Prelude.{None, Some}
 use Rattle.std.proofs.lemmas.Map.{NonePasses, none_passes_from_lookup, lookup-remove_entry}
 use Rattle.indexmap.specs.IndexMap.{insert_entry}
 use Rattle.ax_address.specs.Callsign.{Callsign, same_call}
+use Rattle.ax_address.proofs.SameCalls.{same_call-true, call_refl}
 use Rattle.station_ports.specs.Lasts.{last}
 use Rattle.station_ports.specs.Known.{port_of, remembered}
-use Rattle.station_ports.proofs.Calls.{same_call-true, call_refl}
 
 same_equivalence : IsEquivalence same_call
 same_equivalence = and_equiv (on_equiv (λ c. c.letters) nat_list_eq_equiv) (on_equiv (λ c. c.ssid) nat_eq_equiv)

@@ -1,4 +1,4 @@
-//! Aliases as calls.
+//! Aliases as calls. Called by the crates that run a station.
 ghost use Rattle.std.specs.Prelude.{◌≡◌, ◌*◌, ◌++◌, ◌∷◌, [], true, nat_lt, map, IfSome, IfNone};
 ghost use Rattle.std.specs.List.{list_all};
 ghost use Rattle.ax_address.specs.Callsign.{IsCallsign};

@@ -1,4 +1,4 @@
-//! Who speaks to a member by its alias.
+//! Who speaks to a member by its alias. Called by the crates that run a station.
 ghost use Rattle.std.specs.Prelude.{◌≡◌, ◌≤◌, [], length};
 ghost use Rattle.station_ports.specs.Lasts.{last};
 ghost use Rattle.station_ports.specs.Peers as peers;

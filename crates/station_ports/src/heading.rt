@@ -1,4 +1,4 @@
-//! Who is heard in a frame, and to whom it is on its way.
+//! Who is heard in a frame, and to whom it is on its way. Called by the crates that run a station.
 ghost use Rattle.std.specs.Prelude.{◌≡◌, ◌≤◌, ◌++◌, List, ℕ, length, IfSome, Some};
 ghost use Rattle.ax_frame.specs.Frames.{BeginsWith, SpellsHead};
 ghost use Rattle.ax_frame.specs.declared.head.Head as of_frame;

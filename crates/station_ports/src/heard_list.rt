@@ -1,4 +1,4 @@
-//! Who was heard at a port.
+//! Who was heard at a port. Called by the crates that run a station.
 ghost use Rattle.std.specs.Prelude.{◌≡◌, ◌≤◌, [], length, take};
 ghost use Rattle.station_ports.specs.Hearing as hearing;
 

@@ -69,6 +69,13 @@ impl HeldBack {
         }
     }
 
+    /// How many wait.
+    pub fn len(&self) -> usize
+        ensures { result ≡ length self.now }
+    {
+        self.held.len()
+    }
+
     /// What waits for this peer and port is let fall.
     pub fn drop_for(&mut self, peer: &Call, port: u8)
         ensures { self.new ≡ holding.without peer.now port self.old }

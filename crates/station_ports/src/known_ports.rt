@@ -1,4 +1,4 @@
-//! By which port a call is reached.
+//! By which port a call is reached. Called by the crates that run a station.
 ghost use Rattle.std.specs.Prelude.{◌≡◌, ◌≤◌, [], length, Some, OnOk, OnErr};
 ghost use Rattle.indexmap.specs.IndexMap.{spare};
 ghost use Rattle.station_ports.specs.Lasts.{last};

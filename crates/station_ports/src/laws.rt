@@ -1,4 +1,4 @@
-//! What the definitions promise by themselves.
+//! Laws of the definitions of what a station keeps of its radios alone. No code calls them.
 
 ghost use Rattle.std.specs.Prelude.{◌≡◌};
 ghost use Rattle.station_ports.specs.Laws.{SpellsWithDest, SpellsWithSource};

@@ -1,4 +1,4 @@
-//! A frame that goes on a port.
+//! A frame that goes on a port. Called by `held_back` and `readdressed`.
 ghost use Rattle.std.specs.Prelude.{◌≡◌, IfOk};
 
 use radio_base::NoMemory;

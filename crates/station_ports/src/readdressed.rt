@@ -1,4 +1,4 @@
-//! Frames that get another destination or source.
+//! Frames that get another destination or source. Called by the crates that run a station.
 ghost use Rattle.std.specs.Prelude.{◌≡◌, ◌≤◌, ◌+◌, ◌++◌, ◌∷◌, length, IfOk};
 ghost use Rattle.station_ports.specs.Readdressed.{with_call_at, with_ssid};
 

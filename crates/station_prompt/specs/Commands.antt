@@ -1,5 +1,5 @@
 -- What a line at a station's prompt asks for, by its words in capital letters. Own profile.
-use Rattle.std.specs.Prelude.{ℕ, ◌-◌, List, [], ◌∷◌, length, take, Option, Some, None, Result, Ok, Err, Bool, ◌&&◌, ◌||◌, ◌==◌, nat_eq, nat_le, nat_lt, codes, if◌then◌else◌}
+use Rattle.std.specs.Prelude.{ℕ, ◌-◌, List, [], ◌∷◌, length, take, Option, Some, None, Result, Ok, Err, Bool, false, ◌&&◌, ◌||◌, ◌==◌, nat_eq, nat_le, nat_lt, codes, if◌then◌else◌}
 use Rattle.std.specs.List.{starts_with, ends_with}
 use Rattle.station_prompt.specs.declared.verb.Verb.{Verb}
 use Rattle.station_prompt.specs.declared.verb.Verb.TheVariants.{Connect, Nodes, Routes, Users, Ports, MHeard, Links, Stats, Info, Version, Mail, Bye, Help}
@@ -128,3 +128,8 @@ command_from word (Some verb) words = unless_wrong verb (command_with verb words
 abbrev pub command_of : List (List ℕ) → Result Asked (Refused Verb)
 command_of [] = Ok Nothing
 command_of (word ∷ words) = command_from word (verb_of word) words
+
+-- what ends a try: Bye, Quit or Abort, alone
+abbrev pub ends_try : List (List ℕ) → Bool
+ends_try (word ∷ []) = is_form word (codes "BYE") 1 || is_form word (codes "QUIT") 1 || is_form word (codes "ABORT") 1
+ends_try words = false

@@ -1,4 +1,4 @@
-//! Lines in capital letters.
+//! Lines in capital letters. Called by the crates that run a station.
 ghost use Rattle.std.specs.Prelude.{◌≡◌, map, IfOk};
 ghost use Rattle.station_prompt.specs.Commands as words;
 

@@ -1,4 +1,4 @@
-//! What the definitions promise by themselves.
+//! Laws of the definitions of lines and replies alone. No code calls them.
 
 ghost use Rattle.std.specs.Prelude.{◌≡◌};
 

@@ -1,4 +1,4 @@
-//! Why a line asks for nothing that there is.
+//! Why a line asks for nothing that there is. Used by `command` and `mail_command`.
 
 /// Why a line asks for nothing that there is: of a prompt whose first words are these.
 #[derive(Clone, Copy, Debug)]

@@ -1,4 +1,4 @@
-//! What a line at the mail prompt asks for.
+//! What a line at the mail prompt asks for. Called by the crates that run a station.
 ghost use Rattle.std.specs.Prelude.{◌≡◌, ◌==◌, ◌<◌, length, position, IfSome};
 ghost use Rattle.text_lines.specs.Lines.{texts};
 ghost use Rattle.station_prompt.specs.Asked as asked;

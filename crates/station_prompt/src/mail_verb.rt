@@ -1,4 +1,4 @@
-//! What lines at the mail prompt begin with.
+//! What lines at the mail prompt begin with. Called by `mail_command`.
 ghost use Rattle.std.specs.Prelude.{◌≡◌};
 ghost use Rattle.station_prompt.specs.MailCommands as commands;
 

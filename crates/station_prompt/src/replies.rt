@@ -1,4 +1,4 @@
-//! How replies begin, and how they tell names and ages.
+//! How replies begin, and how they tell names and ages. Called by the crates that run a station.
 ghost use Rattle.std.specs.Prelude.{◌≡◌, ◌<◌, IfOk};
 ghost use Rattle.station_prompt.specs.Replies as replies;
 

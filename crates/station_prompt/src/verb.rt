@@ -1,4 +1,4 @@
-//! What lines at the prompt begin with.
+//! What lines at the prompt begin with. Called by `command` and `mail_verb`.
 ghost use Rattle.std.specs.Prelude.{◌≡◌};
 ghost use Rattle.station_prompt.specs.Commands as commands;
 

@@ -1,7 +1,7 @@
 use Rattle.std.proofs.Common.{◌≡◌, ◌∙◌, ◌++◌, ◌∷◌, [], ap, true, nat_lt}
 use Rattle.std.specs.List.{list_all}
 use Rattle.ax_address.specs.Callsign.{Callsign}
-use Rattle.station_ports.proofs.Readdressing.{doubles}
+use Rattle.ax_address.proofs.CallOctets.{doubles}
 use Rattle.station_ports.proofs.AliasCalls.{is_alias, alias_spelled, small_letters, refused-read}
 use Rattle.station_ports.proofs.alias_calls.call_of_alias.Goals as goal
 

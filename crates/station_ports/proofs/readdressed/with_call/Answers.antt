@@ -1,7 +1,8 @@
 use Rattle.std.proofs.Common.{◌≡◌, ◌+◌, ◌*◌, ◌-◌, ◌∙◌, ◌∷◌, [], ap, length, take, drop, slice_index}
 use Rattle.std.proofs.lemmas.List.{take_at, take_rest}
+use Rattle.ax_address.proofs.CallOctets.{doubles}
 use Rattle.station_ports.specs.Readdressed.{with_ssid}
-use Rattle.station_ports.proofs.Readdressing.{doubles, six_doubles}
+use Rattle.station_ports.proofs.Readdressing.{six_doubles}
 use Rattle.station_ports.proofs.readdressed.with_call.Goals as goal
 
 pub returns : goal.returns

@@ -1,0 +1,9 @@
+pub mod Keys
+pub mod Values
+pub mod Items
+pub mod Tables
+pub mod Station
+pub mod Stations
+pub mod Told
+pub mod Lines
+pub mod Files

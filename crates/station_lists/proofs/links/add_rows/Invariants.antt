@@ -1,0 +1,7 @@
+use Rattle.std.proofs.Common.{◌≡◌, ◌++◌, drop}
+use Rattle.std.specs.Prelude.{flat_map}
+use Rattle.station_lists.specs.Lists as lists
+use Rattle.station_lists.proofs.links.add_rows.Given as goal
+
+abbrev pub invariant-loop-row : goal.invariant-loop-row
+invariant-loop-row l = l.reply ++ flat_map lists.link_line (drop l.row-index l.rows) ≡ l.fn.reply ++ flat_map lists.link_line l.rows

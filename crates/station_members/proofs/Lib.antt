@@ -1,0 +1,15 @@
+pub mod Places
+pub mod NodesStand
+pub mod Loops
+pub mod Giving
+pub mod HeldFrames
+pub mod Bynames
+pub mod Moves
+pub mod Keeping
+pub mod MembersNodes
+pub mod FirstTelling
+pub mod DeskMoves
+pub mod Lossless
+pub mod Small
+pub mod SeatMoves
+pub mod BeaconFrames

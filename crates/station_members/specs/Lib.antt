@@ -1,0 +1,15 @@
+pub mod Places
+pub mod Ports
+pub mod Seats
+pub mod Hearing
+pub mod Outgoing
+pub mod Telling
+pub mod Beacons
+pub mod Desks
+pub mod Routing
+pub mod Waiting
+pub mod Nodes
+pub mod States
+pub mod Standing
+pub mod Looks
+pub mod Laws
