@@ -1,0 +1,245 @@
+"""Stand-ins for all that is around wursthatch-hub: the station, TNCs, users, and a folder in which a hub runs. Called by .ci/hub.
+
+The stand-in station writes its words into the file `started` of its folder and each frame that it reads, in hexadecimal, into `heard`. It
+answers at consoles, and a frame with REPEAT n in it comes back n times; after one with STALL it takes nothing for three seconds. It
+tells what the file `tells` holds, and ends with the status that `end` does.
+"""
+
+import json
+import os
+import signal
+import socket
+import subprocess
+import sys
+import threading
+import time
+
+TOP = os.path.dirname(os.path.dirname(os.path.realpath(__file__)))
+FEND = b"\xC0"
+OPEN = threading.local()                # the lines that this row, which has a thread of its own, has opened
+STATION = r"""#!/usr/bin/env python3
+import os, re, shlex, sys, time
+room, opened = os.path.dirname(os.path.realpath(__file__)), set()
+
+def note(name, text):
+    with open(os.path.join(room, name), "a") as kept:
+        kept.write(text + "\n")
+
+def holds(name):
+    try:
+        with open(os.path.join(room, name)) as kept:
+            return kept.read() or "here"
+    except FileNotFoundError:
+        return ""
+
+def put(kind, octets):
+    sys.stdout.buffer.write(b"\xC0" + bytes([kind]) + octets + b"\xC0")
+    sys.stdout.buffer.flush()
+
+def console(number, kind, text):
+    note("heard", f"console {number} {kind.decode()} {text!r}")
+    if kind == b"S" and not holds("stays"):
+        for one in opened:
+            put(0xF0, bytes([one]) + b"C")
+    if kind == b"O":
+        opened.add(number)
+        put(0xF0, bytes([number]) + b"T" + b"Welcome " + text + b"\r")
+    if kind == b"T":
+        for _ in range(3000 if b"long" in text else 1):
+            put(0xF0, bytes([number]) + b"T" + text)
+    if kind == b"C" or b"bye" in text:
+        opened.discard(number)
+    if b"bye" in text:
+        put(0xF0, bytes([number]) + b"C")
+
+def take(piece):
+    note("heard", piece.hex())
+    if found := re.search(rb"REPEAT (\d+)", piece):
+        for count in range(int(found[1])):
+            put(piece[0], piece[1:] + b" %d" % count)
+    if b"STALL" in piece:
+        time.sleep(3)
+    if b"LEAVE" in piece:
+        sys.exit(int(holds("end")))
+
+if sys.argv[1] == "check":
+    if holds("refusal"):
+        print(holds("refusal"), file=sys.stderr)
+    sys.exit(3 if holds("refusal") else 0)
+note("started", shlex.join(sys.argv[1:]))
+print('{"at":0,"status":{"sessions":0,"letters":7}}', "a note", holds("tells") or "", sep="\n", file=sys.stderr, flush=True)
+held = b""
+while got := sys.stdin.buffer.raw.read(4096):
+    *pieces, held = (held + got).split(b"\xC0")
+    for piece in pieces:
+        if piece[:1] == b"\xF0":
+            console(piece[1], piece[2:3], piece[3:])
+        else:
+            take(piece)
+"""
+PORT = '[[port]]\nname = "{}"\ntnc = "{}"\n'
+
+
+def call(text, last=0):
+    """An address field."""
+    name, _, ssid = text.partition("-")
+    return bytes(ord(letter) << 1 for letter in name.ljust(6)) + bytes([0x60 | int(ssid or 0) << 1 | last])
+
+
+def ui(source, dest, info, pid=0xF0):
+    return call(dest) + call(source, 1) + bytes([3, pid]) + info
+
+
+def opened(line):
+    """A line that is closed when the row is over."""
+    OPEN.__dict__.setdefault("lines", []).append(line)
+    return line
+
+
+def close_all():
+    for line in OPEN.__dict__.pop("lines", []):
+        line.close()
+
+
+def until(holds, seconds=20, what="nothing came"):
+    """Waits until it holds, and answers what it gave."""
+    end = time.monotonic() + seconds
+    while not (got := holds()):
+        assert time.monotonic() < end, what
+        time.sleep(.02)
+    return got
+
+
+def free_port(kind=socket.SOCK_STREAM):
+    """The number of a port for a hub to listen at. One of TCP is kept from all others: who listens there may, and nobody else gets it."""
+    line = socket.socket(socket.AF_INET, kind)
+    line.setsockopt(socket.SOL_SOCKET, socket.SO_REUSEADDR, 1)
+    line.bind(("127.0.0.1", 0))
+    number = line.getsockname()[1]
+    if kind == socket.SOCK_STREAM:
+        opened(line)
+    else:
+        line.close()
+    return number
+
+
+class Tnc:
+    """A stand-in for a TNC on TCP."""
+
+    def __init__(self, number=0):
+        self.server = opened(socket.create_server(("127.0.0.1", number)))
+        self.number = self.server.getsockname()[1]
+        self.line, self.got = None, b""
+
+    def come(self):
+        self.server.settimeout(20)
+        self.line, self.got = opened(self.server.accept()[0]), b""
+        self.line.settimeout(.1)
+        return self
+
+    def leave(self):
+        self.line.close()
+        self.server.close()
+
+    def send(self, *frames):
+        for frame in frames:
+            self.line.sendall(FEND + b"\x00" + frame + FEND)
+
+    def frames(self):
+        """What has come, without its FENDs."""
+        try:
+            while got := self.line.recv(65536):
+                self.got += got
+        except TimeoutError:
+            pass
+        return [piece for piece in self.got.split(FEND)[:-1] if piece]
+
+
+class User:
+    """Who comes by telnet."""
+
+    def __init__(self, number, *lines):
+        self.line, self.got = opened(socket.create_connection(("127.0.0.1", number))), b""
+        self.line.settimeout(.1)
+        for line in lines:
+            self.type(line)
+
+    def type(self, text):
+        self.line.sendall(text if isinstance(text, bytes) else text.encode() + b"\r\n")
+
+    def sees(self, text):
+        """Waits for that text; nothing is the end."""
+        def came():
+            try:
+                got = self.line.recv(65536)
+            except TimeoutError:
+                return text and text in self.got
+            except ConnectionResetError:
+                got = b""
+            self.got += got
+            return text in self.got if text else not got
+        until(came, what=f"no {text} in {self.got[-200:]}")
+
+
+class Room:
+    """A folder with a stand-in station, and a hub in it."""
+
+    def __init__(self, path):
+        self.path, self.hub, self.telnet, self.web = path, None, free_port(), free_port()
+        self.env = {**os.environ, "WURSTHATCH_STATION": os.path.join(path, "station"), "STATE_DIRECTORY": path}
+        self.keep("station", STATION)
+        os.chmod(os.path.join(path, "station"), 0o755)
+
+    def keep(self, name, text):
+        with open(os.path.join(self.path, name), "w", encoding="utf-8") as kept:
+            kept.write(text)
+
+    def holds(self, name):
+        try:
+            with open(os.path.join(self.path, name), encoding="utf-8") as kept:
+                return kept.read()
+        except FileNotFoundError:
+            return ""
+
+    def start(self, text="", hub=""):
+        """A hub with this file, whose node is N0AAA-1, alias ANODE."""
+        node = '[[node]]\ncall = "N0AAA-1"\nalias = "ANODE"\nports = []\n'
+        keys = f'[hub]\ntelnet = "127.0.0.1:{self.telnet}"\nweb = "127.0.0.1:{self.web}"\n'
+        self.keep("station.toml", 'name = "Here"\ndeny = ["N0BAD"]\n' + text + node + keys + hub)
+        with open(os.path.join(self.path, "notes"), "a", encoding="utf-8") as notes:
+            self.hub = subprocess.Popen([sys.executable, "-W", "error", os.path.join(TOP, "wursthatch-hub"), "station.toml"], env=self.env,
+                                        cwd=self.path, stdin=subprocess.DEVNULL, stdout=subprocess.PIPE, stderr=notes)
+        return self
+
+    def runs(self, *arguments, **settings):
+        """As `start`, and its station runs."""
+        before = self.holds("started")
+        self.start(*arguments, **settings)
+        until(lambda: self.holds("started") != before, what="no station was started")
+        return self
+
+    def heard(self):
+        """Frames that the station was handed; each FEND alone is an empty one. (a line that is being written isn't there yet)"""
+        return [bytes.fromhex(line) for line in self.holds("heard").split("\n")[:-1] if not line.startswith("console")]
+
+    def hears(self, *frames):
+        until(lambda: set(frames) <= set(self.heard()), what=f"not heard: {[frame for frame in frames if frame not in self.heard()][:3]}")
+
+    def console(self, text):
+        until(lambda: text in self.holds("heard"), what=f"no {text} in {self.holds('heard')[-300:]}")
+
+    def get(self, path, method="GET"):
+        with socket.create_connection(("127.0.0.1", self.web)) as line:
+            line.sendall(f"{method} {path} HTTP/1.1\r\nHost: here\r\n\r\n".encode())
+            head, _, body = b"".join(iter(lambda: line.recv(65536), b"")).partition(b"\r\n\r\n")
+        return head.decode(), body.decode()
+
+    def status(self):
+        return json.loads(self.get("/status.json")[1])
+
+    def ends(self, by=signal.SIGTERM):
+        """Its status."""
+        if by:
+            self.hub.send_signal(by)
+        self.lines = self.hub.communicate(timeout=30)[0].decode()
+        return self.hub.returncode
