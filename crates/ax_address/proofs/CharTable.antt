@@ -1,6 +1,7 @@
 -- The table of the octets that are a call's characters, against what those are.
 use Rattle.std.proofs.Common.{◌≡◌, ◌<◌, ◌+◌, ℕ, zero, suc, refl, sym, List, [], ◌∷◌, length, get_or, arith, Bool, true, false}
 use Rattle.std.specs.Prelude.{◌&&◌, ◌==◌, not, codes}
+use Rattle.std.proofs.lemmas.Bool.{and_parts}
 use Rattle.ax_address.specs.Octets.{is_char_octet}
 
 abbrev pub table : List ℕ
@@ -15,10 +16,6 @@ same_is true b h = sym h
 same_is false true h = absurd cc
 same_is false false h = refl
 
-both : (a b : Bool) → (a && b) ≡ true → (a ≡ true) × (b ≡ true)
-both true b h = (refl, h)
-both false b h = absurd cc
-
 -- the marks from the octet o on are right
 abbrev are_right : ℕ → List ℕ → Bool
 are_right o [] = true
@@ -28,10 +25,10 @@ each_is_right : (o : ℕ) (marks : List ℕ) → are_right o marks ≡ true → 
 each_is_right o [] h k lt = absurd (omega arith)
 each_is_right o (mark ∷ marks) h zero lt =
     let e : o + 0 ≡ o = omega arith in
-    rw e (same_is (not (mark == 46)) (is_char_octet o) (both (same (not (mark == 46)) (is_char_octet o)) (are_right (o + 1) marks) h).0)
+    rw e (same_is (not (mark == 46)) (is_char_octet o) (and_parts (same (not (mark == 46)) (is_char_octet o)) (are_right (o + 1) marks) h).0)
 each_is_right o (mark ∷ marks) h (suc k) lt =
     let e : o + suc k ≡ (o + 1) + k = omega arith in
-    rw e (each_is_right (o + 1) marks (both (same (not (mark == 46)) (is_char_octet o)) (are_right (o + 1) marks) h).1 k (omega arith))
+    rw e (each_is_right (o + 1) marks (and_parts (same (not (mark == 46)) (is_char_octet o)) (are_right (o + 1) marks) h).1 k (omega arith))
 
 -- the octet is marked where it is a character
 pub marked : (o : ℕ) → o < 256 → not (get_or table o 0 == 46) ≡ is_char_octet o

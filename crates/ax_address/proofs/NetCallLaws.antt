@@ -7,11 +7,15 @@ use Rattle.ax_address.specs.Octets.{fault_in, address_fault, address_in, ssid_oc
 use Rattle.ax_address.proofs.AddressLaws.{call_has_none, halves-doubles, bits_are, same_call_is, same_address}
 use Rattle.ax_address.proofs.CallOctets.{doubles, halves, seven, good}
 
-six_doubled : (c : Callsign) → IsCallsign c.letters c.ssid → length (doubles c.letters) ≡ 6
+pub six_doubled : (c : Callsign) → IsCallsign c.letters c.ssid → length (doubles c.letters) ≡ 6
 six_doubled c h =
     let name = name_in c.letters in
     let six : length (padded name) ≡ 6 = omega (arith, length-append name (replicate (6 - length name) 32), length-replicate {A = ℕ} (6 - length name) 32, h.six) in
     length-map c.letters (λ b. 2 * b) ∙ (ap length h.spaces ∙ six)
+
+-- a call is written in seven octets
+pub call_len : (c : Callsign) → IsCallsign c.letters c.ssid → length (net_call_octets c) ≡ 7
+call_len c h = omega (arith, six_doubled c h, length-append (doubles c.letters) ((96 + 2 * c.ssid) ∷ []))
 
 last_of : (os : List ℕ) (o : ℕ) → length os ≡ 6 → get_or (os ++ o ∷ []) 6 0 ≡ o
 last_of (a ∷ b ∷ c ∷ d ∷ e ∷ f ∷ []) o h = refl
@@ -48,7 +52,7 @@ written_spells c h = record {
 }
 
 -- what is heeded of a call's octets is its letters and its SSID
-call_parts : (ls : List ℕ) (o ssid : ℕ) → length ls ≡ 6 → o / 2 % 16 ≡ ssid → heeded_call (ls ++ o ∷ []) ≡ ls ++ ssid ∷ []
+pub call_parts : (ls : List ℕ) (o ssid : ℕ) → length ls ≡ 6 → o / 2 % 16 ≡ ssid → heeded_call (ls ++ o ∷ []) ≡ ls ++ ssid ∷ []
 call_parts ls o ssid h e = rw (take_at ls (o ∷ []) 6 h, drop_at ls (o ∷ []) 6 h) (ap (λ k. ls ++ k ∷ []) e)
 
 pub call_heeded : (c : Callsign) (os : List ℕ) → SpellsNetCall c os → heeded_call os ≡ doubles c.letters ++ c.ssid ∷ []

@@ -7,11 +7,12 @@ use Rattle.std.proofs.lemmas.List.{take_all, take_at, drop_at, take-append-drop}
 use Rattle.std.proofs.lemmas.List.Sums.{prefix_len-le-length}
 use Rattle.std.proofs.lemmas.List.Elements.{recursion_from_All}
 use Rattle.std.proofs.lemmas.Bool.Decides.{nat_tests}
+use Rattle.std.proofs.lemmas.Fmt.{decimal_digit}
 use Rattle.ax_address.specs.declared.call.CallRefusal.{CallRefusal}
 use Rattle.ax_address.specs.declared.call.CallRefusal.TheVariants.{Empty, TooLong}
 use Rattle.ax_address.specs.Callsign.{Callsign, IsCallsign, IsCallChar, is_call_char, name_in, padded, suffix, shown, IsTextOf, ReadsCallTexts, name_end, fits_six, name_at, ssid_at, suffix_of, call_at}
 use Rattle.ax_address.proofs.Names.{name_in-padded, padded_is_call, no_bad}
-use Rattle.ax_address.proofs.Suffixes.{decimal_units, ssid_of_takes, ssid_of-decimal}
+use Rattle.ax_address.proofs.Suffixes.{ssid_of_takes, ssid_of-decimal}
 use Rattle.ax_address.specs.Results.{◌>>=◌}
 
 pub bind_ok : {A B : Type 0} (r : Result A CallRefusal) (f : A → Result B CallRefusal) (y : B) → (r >>= f) ≡ Ok y → (x : A) × (r ≡ Ok x) × (f x ≡ Ok y)
@@ -99,7 +100,7 @@ of_padded c h = ap (λ ls. record c { letters = ls }) (sym h.spaces)
 hyphen_then : (ssid : ℕ) (b : Bool) → (ssid == 0) ≡ b → (rest : List ℕ) → rest ≡ 45 ∷ decimal ssid → (rest ≡ cond b [] (45 ∷ decimal ssid)) ⊎ ((ssid ≡ 0) × (rest ≡ codes "-0"))
 hyphen_then ssid true e rest is =
     let z : ssid ≡ 0 = grind (arith, nat_tests) in
-    inr (z, is ∙ ap (λ ds. 45 ∷ ds) (ap decimal z ∙ decimal_units 0 (omega arith)))
+    inr (z, is ∙ ap (λ ds. 45 ∷ ds) (ap decimal z ∙ decimal_digit 0 (omega arith)))
 hyphen_then ssid false e rest is = inl is
 
 -- what stands behind the name shows the SSID, and for SSID 0 may be -0

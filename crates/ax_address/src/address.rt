@@ -1,4 +1,5 @@
-//! One address of a frame, and the path of its repeaters (AX.25 2.2, section 3.12).
+//! One address of a frame, and the path of its repeaters (AX.25 2.2, section 3.12). Used by `octets`, and by `ax_frame`, `digi_path` and
+//! crates above.
 ghost use Rattle.std.specs.Prelude.{◌≤◌};
 
 use crate::Call;

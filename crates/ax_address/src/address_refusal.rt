@@ -1,4 +1,4 @@
-//! Why octets are no address (AX.25 2.2, section 3.12).
+//! Why octets are no address (AX.25 2.2, section 3.12). Called by `net_calls` and `octets`, and by `ax_frame`.
 ghost use Rattle.std.specs.Prelude.{◌≡◌};
 ghost use Rattle.ax_address.specs.Octets as octet;
 

@@ -1,4 +1,4 @@
-//! One destination of a NODES broadcast (NET/ROM, Appendix B).
+//! One destination of a NODES broadcast (NET/ROM, Appendix B). Used by `nodes_broadcast`, `route_table` and crates above.
 use crate::{Alias, Call};
 
 /// What a NODES broadcast says of one destination: by which neighbour its sender would reach it, and how well.

@@ -1,4 +1,4 @@
-//! What the definitions promise by themselves.
+//! Laws of the definitions of calls and addresses alone. Called by the laws of the crates above.
 
 ghost use Rattle.std.specs.Prelude.{◌≡◌};
 ghost use Rattle.ax_address.specs.Callsign.{call_cmp, ReadsCallTexts};

@@ -1,4 +1,4 @@
-//! Calls as broadcasts and datagrams spell them (NET/ROM, Appendix B).
+//! Calls as broadcasts and datagrams spell them (NET/ROM, Appendix B). Called by `nodes_broadcast`, `l3_datagram` and crates above.
 ghost use Rattle.std.specs.Prelude.{◌≡◌, ◌<◌, IfOk, IfErr, Ok};
 ghost use Rattle.ax_address.specs.Callsign.{Callsign};
 ghost use Rattle.ax_address.specs.Octets as octet;

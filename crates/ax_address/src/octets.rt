@@ -1,4 +1,4 @@
-//! Addresses as frames spell them (AX.25 2.2, section 3.12).
+//! Addresses as frames spell them (AX.25 2.2, section 3.12). Called by `net_calls`, and by `ax_frame` and `circuit_l4`.
 ghost use Rattle.std.specs.Prelude.{◌≡◌, ◌<◌, ◌≤◌, ◌/◌, ◌*◌, take, drop, map, length, IfOk, IfErr, IfSome, Ok, None, Bool};
 ghost use Rattle.std.specs.List.{prefix_len};
 ghost use Rattle.std.specs.Result.{result_err};

@@ -6,11 +6,12 @@ use Rattle.std.proofs.lemmas.Bool.Decides.{nat_tests}
 use Rattle.ax_address.specs.declared.address_refusal.AddressRefusal.{AddressRefusal}
 use Rattle.ax_address.specs.Octets as octets
 use Rattle.ax_address.specs.Octets.{fault_in, address_fault}
+use Rattle.ax_address.proofs.CallFaults.{drop_front}
 use Rattle.ax_frame.specs.declared.frame.FrameRefusal.{FrameRefusal}
 use Rattle.ax_frame.specs.declared.frame.FrameRefusal.TheVariants.{Short, BadCall}
 use Rattle.ax_frame.specs.Reading.{extension_from, extension_at}
 use Rattle.ax_frame.specs.Faults.{refused_place, IsPlaced}
-use Rattle.ax_frame.proofs.Kept.{Kept, kept_less, kept_get_or, kept_drop, drop_front}
+use Rattle.ax_frame.proofs.Kept.{Kept, kept_less, kept_get_or, kept_drop}
 
 -- ---- one address
 

@@ -4,6 +4,7 @@ use Rattle.std.specs.Prelude.{◌==◌, ◌||◌, Option, Some, None, is_some, R
 use Rattle.std.proofs.lemmas.List.{append_assoc, length-append, length-take}
 use Rattle.std.proofs.lemmas.Option.{slice_get_past, slice_get_within}
 use Rattle.std.proofs.lemmas.Bool.Decides.{nat_tests}
+use Rattle.ax_address.proofs.CallOctets.{none_past}
 use Rattle.ax_frame.specs.declared.control.Control.{Control}
 use Rattle.ax_frame.specs.declared.control.Control.TheVariants.{I, Rr, Rnr, Rej, Srej, Sabm}
 use Rattle.ax_frame.specs.declared.frame.FrameRefusal.{FrameRefusal}
@@ -14,11 +15,6 @@ use Rattle.ax_frame.specs.Faults.{refused_place, IsPlaced}
 use Rattle.ax_frame.proofs.Kept.{Kept, kept_of, kept_get}
 
 -- ---- octets at a place
-
-pub past_length : (os : List ℕ) (n : ℕ) → slice_get os n ≡ None → length os ≤ n
-past_length [] n h = omega arith
-past_length (o ∷ os) zero h = absurd cc
-past_length (o ∷ os) (suc n) h = let ih = past_length os n h in omega arith
 
 pub get_behind : (os more : List ℕ) (o n : ℕ) → length os ≡ n → slice_get (os ++ o ∷ more) n ≡ Some o
 get_behind [] more o zero h = refl
@@ -170,7 +166,7 @@ two_bad at b (Some n) h = let k : numbered b (b / 2) (n / 2) (n % 2 == 1) ≡ No
 two_missing : (size at b : ℕ) (bytes : List ℕ) → slice_get bytes at ≡ Some b → slice_get bytes (at + 1) ≡ None → ((next : Option ℕ) → control_from size at b next ≡ two_octets at b next) → known b ≡ true → FieldBad size at bytes (Short (at + 1))
 two_missing size at b bytes first next is h =
     let there = slice_get_within bytes at b first in
-    let all : at + 1 ≡ length bytes = omega (arith, there, past_length bytes (at + 1) next) in
+    let all : at + 1 ≡ length bytes = omega (arith, there, none_past bytes (at + 1) next) in
     let k = some_of (numbered b (b / 2) 0 false) (known_is b (b / 2) 0 false ∙ h) in
     let front = take (at + 1) bytes ++ 0 ∷ [] in
     let len : length front ≡ at + 2 = omega (arith, length-append (take (at + 1) bytes) (0 ∷ []), length-take (at + 1) bytes, all) in
@@ -232,7 +228,7 @@ begun_field size at b bytes false first is = numbered_field size at b bytes (siz
 
 no_field : (size at : ℕ) (bytes : List ℕ) → at ≤ length bytes → slice_get bytes at ≡ None → FieldBad size at bytes (Short at)
 no_field size at bytes within none =
-    let all : at ≡ length bytes = omega (arith, within, past_length bytes at none) in
+    let all : at ≡ length bytes = omega (arith, within, none_past bytes at none) in
     record {
       later = omega arith;
       place = all;

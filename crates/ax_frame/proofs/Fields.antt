@@ -9,6 +9,9 @@ use Rattle.ax_frame.specs.declared.control.Format.{Format}
 use Rattle.ax_frame.specs.declared.control.Format.TheVariants.{Information, Supervisory, Unnumbered}
 use Rattle.ax_frame.specs.declared.frame.FrameRefusal.{FrameRefusal}
 use Rattle.ax_frame.specs.declared.frame.FrameRefusal.TheVariants.{Short, BadControl}
+use Rattle.radio_base.specs.Modulus.{modulus_size}
+use Rattle.radio_base.specs.declared.modulus.LinkModulus.{LinkModulus}
+use Rattle.radio_base.specs.declared.modulus.LinkModulus.TheVariants.{Modulo8, Modulo128}
 use Rattle.ax_frame.specs.Controls.{IsLinkModulus, format_of, format_octets, control_octets, NumbersFit, FormatFits, poll, low_bit}
 use Rattle.ax_frame.specs.Reading.{has_code, supervisory, unnumbered, numbered, poll_bit, field_end, two_octets, control_or_short}
 use Rattle.ax_frame.proofs.Words.{find_has, IsBytes}
@@ -104,8 +107,8 @@ two_octets_take size at b n more c end f is fits octets e =
       spelled = rw (is, octets, len) refl;
     }
 
-eight_takes : (size at b : ℕ) (more : List ℕ) (c : Control) (end : ℕ) → size ≡ 8 → b < 256 → field_end at (at + 1) (numbered (b % 16) (b / 2 % 8) (b / 32) (poll_bit b)) ≡ Ok (c, end) → TakesField size at (b ∷ more) c end
-eight_takes size at b more c end eight small h =
+octet_takes : (size at b : ℕ) (more : List ℕ) (c : Control) (end : ℕ) → size ≡ 8 → b < 256 → field_end at (at + 1) (numbered (b % 16) (b / 2 % 8) (b / 32) (poll_bit b)) ≡ Ok (c, end) → TakesField size at (b ∷ more) c end
+octet_takes size at b more c end eight small h =
     let f = field_takes at (at + 1) (numbered (b % 16) (b / 2 % 8) (b / 32) (poll_bit b)) c end h in
     elim (numbered_is (b % 16) (b / 2 % 8) (b / 32) (poll_bit b) c f.0) as (λ _. TakesField size at (b ∷ more) c end) [
       | inl k ↦ one_octet size at b more c end (Information (b / 2 % 8) (b / 32) (poll_bit b)) k.1 (omega arith, omega arith)
@@ -114,8 +117,8 @@ eight_takes size at b more c end eight small h =
           (rw eight (ap (λ o. o ∷ []) (sym (supervisory_octet b)))) f.1
     ]
 
-wide_takes : (size at b n : ℕ) (more : List ℕ) (c : Control) (end : ℕ) → size ≡ 128 → b < 256 → n < 256 → field_end at (at + 2) (numbered b (b / 2) (n / 2) (n % 2 == 1)) ≡ Ok (c, end) → TakesField size at (b ∷ n ∷ more) c end
-wide_takes size at b n more c end wide small less h =
+extended_takes : (size at b n : ℕ) (more : List ℕ) (c : Control) (end : ℕ) → size ≡ 128 → b < 256 → n < 256 → field_end at (at + 2) (numbered b (b / 2) (n / 2) (n % 2 == 1)) ≡ Ok (c, end) → TakesField size at (b ∷ n ∷ more) c end
+extended_takes size at b n more c end wide small less h =
     let f = field_takes at (at + 2) (numbered b (b / 2) (n / 2) (n % 2 == 1)) c end h in
     elim (numbered_is b (b / 2) (n / 2) (n % 2 == 1) c f.0) as (λ _. TakesField size at (b ∷ n ∷ more) c end) [
       | inl k ↦ let half : 2 * (b / 2) ≡ b = omega (arith, k.0) in
@@ -135,20 +138,25 @@ no_second : (at : ℕ) (b : Bool) (x : Control × ℕ) → cond b (Err (Short (a
 no_second at true x h = cc
 no_second at false x h = cc
 
-wide_takes_more : (size at b : ℕ) (more : List ℕ) (c : Control) (end : ℕ) → size ≡ 128 → IsBytes (b ∷ more) → two_octets at b (slice_get more 0) ≡ Ok (c, end) → TakesField size at (b ∷ more) c end
-wide_takes_more size at b [] c end wide bytes h = absurd (no_second at (is_some (numbered b 0 0 false)) (c, end) h)
-wide_takes_more size at b (n ∷ more) c end wide bytes h = wide_takes size at b n more c end wide (bytes 0) (bytes 1) h
+extended_takes_more : (size at b : ℕ) (more : List ℕ) (c : Control) (end : ℕ) → size ≡ 128 → IsBytes (b ∷ more) → two_octets at b (slice_get more 0) ≡ Ok (c, end) → TakesField size at (b ∷ more) c end
+extended_takes_more size at b [] c end wide bytes h = absurd (no_second at (is_some (numbered b 0 0 false)) (c, end) h)
+extended_takes_more size at b (n ∷ more) c end wide bytes h = extended_takes size at b n more c end wide (bytes 0) (bytes 1) h
 
-is_128 : (size : ℕ) → IsLinkModulus size → (size == 8) ≡ false → size ≡ 128
-is_128 size (inl e) h = let k : (size == 8) ≡ true = rw e refl in absurd cc
-is_128 size (inr e) h = e
+-- a value says one of both moduli
+pub is_of_link : (m : LinkModulus) → IsLinkModulus (modulus_size m)
+is_of_link Modulo8 = inl refl
+is_of_link Modulo128 = inr refl
+
+extended_size : (size : ℕ) → IsLinkModulus size → (size == 8) ≡ false → size ≡ 128
+extended_size size (inl e) h = let k : (size == 8) ≡ true = rw e refl in absurd cc
+extended_size size (inr e) h = e
 
 from_takes : (size at b : ℕ) (more : List ℕ) (c : Control) (end : ℕ) (t u : Bool) → IsLinkModulus size → IsBytes (b ∷ more) → (size == 8) ≡ u
     → cond t (field_end at (at + 1) (unnumbered (b - 16 * (b / 16 % 2)) (poll_bit b))) (cond u (field_end at (at + 1) (numbered (b % 16) (b / 2 % 8) (b / 32) (poll_bit b))) (two_octets at b (slice_get more 0))) ≡ Ok (c, end)
     → TakesField size at (b ∷ more) c end
 from_takes size at b more c end true u m bytes e h = one_takes size at b more c end h
-from_takes size at b more c end false true m bytes e h = eight_takes size at b more c end (eqb-true _ _ e) (bytes 0) h
-from_takes size at b more c end false false m bytes e h = wide_takes_more size at b more c end (is_128 size m e) bytes h
+from_takes size at b more c end false true m bytes e h = octet_takes size at b more c end (eqb-true _ _ e) (bytes 0) h
+from_takes size at b more c end false false m bytes e h = extended_takes_more size at b more c end (extended_size size m e) bytes h
 
 -- what is read as a control field is spelled so
 pub control_takes : (size at : ℕ) (rest : List ℕ) (c : Control) (end : ℕ) → IsLinkModulus size → IsBytes rest → control_or_short size at (slice_get rest 0) (slice_get rest 1) ≡ Ok (c, end) → TakesField size at rest c end

@@ -1,9 +1,10 @@
 -- The first fault of octets is at the first octet that no frame has at its place, or where one must follow.
 use Rattle.std.proofs.Common.{◌≡◌, ◌≤◌, ◌<◌, ◌+◌, ◌++◌, ◌∙◌, ◌⊎◌, inl, inr, ℕ, refl, sym, ap, subst, List, [], ◌∷◌, length, take, arith, Bool, true, false}
-use Rattle.std.specs.Prelude.{Option, Some, None, Result, Ok, Err, slice_get, nat_lt}
-use Rattle.std.proofs.lemmas.Bool.Decides.{nat_tests}
+use Rattle.std.specs.Prelude.{Option, Some, None, Result, Ok, Err, slice_get}
 use Rattle.std.proofs.lemmas.List.{append_assoc, length-append, length-take}
+use Rattle.std.proofs.lemmas.Bool.{cases_lt}
 use Rattle.ax_address.specs.Octets as octets
+use Rattle.ax_address.proofs.CallOctets.{none_past}
 use Rattle.ax_frame.specs.declared.control.Control.{Control}
 use Rattle.ax_frame.specs.declared.frame.FrameRefusal.{FrameRefusal}
 use Rattle.ax_frame.specs.declared.frame.FrameRefusal.TheVariants.{NoPid, ExtraInfo}
@@ -12,7 +13,7 @@ use Rattle.ax_frame.specs.Reading.{head_end, control_at, pid_at, frame_at, first
 use Rattle.ax_frame.specs.Faults.{refused_place, FirstBad, FaultIsFirst}
 use Rattle.ax_frame.proofs.Kept.{kept_less, kept_of}
 use Rattle.ax_frame.proofs.HeadFaults.{Ends, Fails, head_ends, head_fails}
-use Rattle.ax_frame.proofs.FieldFaults.{Field, FieldRead, FieldBad, field_of, sabm_goes, past_length, get_behind, pid_plain, pid_there, pid_extra, pid_info, pid_missing}
+use Rattle.ax_frame.proofs.FieldFaults.{Field, FieldRead, FieldBad, field_of, sabm_goes, get_behind, pid_plain, pid_there, pid_extra, pid_info, pid_missing}
 
 -- ---- the parts of a frame, one behind the other
 
@@ -71,7 +72,7 @@ in_field size at bytes e head bad =
 -- the PID is missing
 no_pid : (size at end : ℕ) (bytes : List ℕ) (c : Control) → Ends head_end bytes at → FieldRead size at bytes c end → has_pid c ≡ true → slice_get bytes end ≡ None → FirstBad size bytes (NoPid end)
 no_pid size at end bytes c head field has none =
-    let all : end ≡ length bytes = omega (arith, field.within, past_length bytes end none) in
+    let all : end ≡ length bytes = omega (arith, field.within, none_past bytes end none) in
     let os = take end bytes ++ 240 ∷ [] in
     let kept = kept_of end bytes (240 ∷ []) field.within in
     let there : slice_get os end ≡ Some 240 = get_behind (take end bytes) [] 240 end (omega (arith, length-take end bytes, all)) in
@@ -99,13 +100,6 @@ extra size at end bytes c head field none without there =
 
 -- ---- whichever it is
 
-placed : (a b : ℕ) (t : Bool) → nat_lt a b ≡ t → (a < b) ⊎ (b ≤ a)
-placed a b true e = inl (grind (arith, nat_tests))
-placed a b false e = inr (grind (arith, nat_tests))
-
-before_or_past : (a b : ℕ) → (a < b) ⊎ (b ≤ a)
-before_or_past a b = placed a b (nat_lt a b) refl
-
 ends_there : (size at end : ℕ) (bytes : List ℕ) (c : Control) (e : FrameRefusal) (b : Bool) → head_end bytes ≡ Ok at → Ends head_end bytes at → control_at size at bytes ≡ Ok (c, end) → FieldRead size at bytes c end → has_pid c ≡ false → takes_info c ≡ b
     → (end < length bytes) ⊎ (length bytes ≤ end) → first_fault size bytes ≡ Some e → FirstBad size bytes e
 ends_there size at end bytes c e b h head k field none info (inr past) f =
@@ -123,7 +117,7 @@ behind_field size at end bytes c e true None h head k field t o f =
 behind_field size at end bytes c e true (Some p) h head k field t o f =
     absurd (let fine = no_fault size at end (end + 1) bytes c (Some p) h k (pid_there c end p bytes t o) in cc)
 behind_field size at end bytes c e false o h head k field t there f =
-    ends_there size at end bytes c e (takes_info c) h head k field t refl (before_or_past end (length bytes)) f
+    ends_there size at end bytes c e (takes_info c) h head k field t refl (cases_lt end (length bytes)) f
 
 abbrev FieldRefusal : Type 0
 FieldRefusal = Result (Control × ℕ) FrameRefusal

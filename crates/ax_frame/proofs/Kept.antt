@@ -36,9 +36,3 @@ kept_get_or i k bytes other h kept = sym (get_or-take k other i 0 h) ∙ (ap (λ
 
 pub kept_drop : (at n : ℕ) (bytes other : List ℕ) → Kept (at + n) bytes other → take n (drop at other) ≡ take n (drop at bytes)
 kept_drop at n bytes other kept = sym (drop-take at n other) ∙ (ap (drop at) kept.same ∙ drop-take at n bytes)
-
--- from a place on, of a front and what was put behind it
-pub drop_front : (at n : ℕ) (os more : List ℕ) → at + n ≤ length os → drop at (take (at + n) os ++ more) ≡ take n (drop at os) ++ more
-drop_front zero n os more h = let e : 0 + n ≡ n = omega arith in rw e refl
-drop_front (suc at) n [] more h = absurd (omega (arith, h))
-drop_front (suc at) n (o ∷ os) more h = let e : suc at + n ≡ suc (at + n) = omega arith in rw e (drop_front at n os more (omega (arith, h)))

@@ -1,4 +1,5 @@
-//! A frame that is lent from its octets, and why octets are none.
+//! A frame that is lent from its octets, and why octets are none. Used by `read`, `show` and `write`, and by `link_life`, `ax_ip` and
+//! crates above.
 use crate::{Control, Head};
 use arrayvec::ArrayVec;
 

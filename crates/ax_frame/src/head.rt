@@ -1,4 +1,5 @@
-//! Who a frame is to and from, and by whom (AX.25 2.2, sections 3.12 and 6.1.2).
+//! Who a frame is to and from, and by whom (AX.25 2.2, sections 3.12 and 6.1.2). Called by `frame`, `read`, `show` and `write`, and by
+//! `link_life`, `link_table` and crates above.
 ghost use Rattle.std.specs.Prelude.{◌≡◌};
 ghost use Rattle.ax_frame.specs.FrameText as texts;
 

@@ -1,4 +1,4 @@
-//! What the definitions promise by themselves.
+//! Laws of the definitions of frames alone. Called by `read`, and by `node_core`.
 
 ghost use Rattle.ax_frame.specs.Faults.{FaultIsFirst};
 ghost use Rattle.ax_frame.specs.Frames.{HeadWithoutFault, HeadSpelledOnce, SpelledWithoutFault, SpelledOnce, SpelledHeadIsRead, SpelledIsRead};

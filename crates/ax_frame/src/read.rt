@@ -1,4 +1,4 @@
-//! Octets become frames (AX.25 2.2, sections 3 and 4).
+//! Octets become frames (AX.25 2.2, sections 3 and 4). Called by `node_core`, `station_ports` and crates above.
 ghost use Rattle.std.specs.Prelude.{◌≡◌, ◌≤◌, ◌<◌, ◌+◌, ◌*◌, ◌^◌, ◌++◌, [], List, ℕ, length, take, drop, IfOk, OnOk, Ok, Err, IsOkAnd, MatchResult};
 ghost use Rattle.ax_frame.specs.Reading as reading;
 ghost use Rattle.ax_frame.specs.Frames.{read_at, read_head_at, BeginsWith, Frame, Spells, SpellsHead, head, view, with_head};
@@ -7,10 +7,11 @@ ghost use Rattle.std.specs.Result.{result_err};
 ghost use Rattle.ax_frame.specs.Controls.{IsLinkModulus};
 ghost use Rattle.ax_frame.specs.Parts.{SpellsLast};
 ghost use Rattle.ax_frame.specs.declared.head.Head.{Head};
+ghost use Rattle.radio_base.specs.Modulus.{modulus_size};
 
 use crate::{Behind, Control, FrameRefusal, FrameView, Head, laws};
 use ax_address::{Address, AddressRefusal, MAX_REPEATERS, Path, address_fault, read_address};
-use radio_base::Modulus;
+use radio_base::{LinkModulus, Modulus};
 
 /// The addresses, and how many octets they have, or the first octet that can't stand there.
 pub fn read_head(bytes: &[u8]) -> Result<(Head, usize), FrameRefusal>
@@ -92,7 +93,7 @@ pub fn read_frame<M: Modulus>(bytes: &[u8]) -> Result<FrameView<'_>, FrameRefusa
     // By the laws of the spelling no other frame is spelled so, and none that is spelled is refused.
     laws::frame_spelling();
     let (head, at) = read_head(bytes)?;
-    let behind = read_behind::<M>(at, bytes)?;
+    let behind = read_behind(LinkModulus::of::<M>(), at, bytes)?;
     Ok(FrameView {
         head,
         control: behind.control,
@@ -101,45 +102,48 @@ pub fn read_frame<M: Modulus>(bytes: &[u8]) -> Result<FrameView<'_>, FrameRefusa
     })
 }
 
-/// What stands behind the head of a frame, which was read already and ends at a place, with sequence numbers modulo 8 or
-/// 128, or the first octet that can't stand at its place. The head stays where it is, since it is long to move, and the
+/// What stands behind the head of a frame, which was read already and ends at a place, with sequence numbers of this
+/// modulus, or the first octet that can't stand at its place. The head stays where it is, since it is long to move, and the
 /// information is lent.
 #[inline(always)]
-pub fn read_behind<M: Modulus>(at: usize, bytes: &[u8]) -> Result<Behind<'_>, FrameRefusal>
-    requires modulus { IsLinkModulus M.SIZE }
-
+pub fn read_behind(
+    modulus: LinkModulus,
+    at: usize,
+    bytes: &[u8],
+) -> Result<Behind<'_>, FrameRefusal>
     // The addresses end there, as `read_head` says.
     requires ends { reading.head_end bytes.now ≡ Ok at }
 
     // Behind each head with which the octets begin, what is read is spelled so.
     ensures found { IfOk result (λ b. (h : Head) → BeginsWith bytes.now h at
-        → Spells M.SIZE (with_head h b) bytes.now) }
+        → Spells (modulus_size modulus) (with_head h b) bytes.now) }
 
     // What is spelled so is read.
-    ensures only { (f : Frame) → Spells M.SIZE f bytes.now → IsOkAnd result (λ b. with_head f.head b ≡ f) }
+    ensures only { (f : Frame) → Spells (modulus_size modulus) f bytes.now
+        → IsOkAnd result (λ b. with_head f.head b ≡ f) }
 
     // It is refused exactly where an octet is at fault.
-    ensures refused { result_err result ≡ reading.first_fault M.SIZE bytes.now }
+    ensures refused { result_err result ≡ reading.first_fault (modulus_size modulus) bytes.now }
     ensures exact { (h : Head) → BeginsWith bytes.now h at
-        → MatchResult result (λ b. read_at M.SIZE bytes.now ≡ Ok (with_head h b))
-        (λ e. read_at M.SIZE bytes.now ≡ Err e) }
+        → MatchResult result (λ b. read_at (modulus_size modulus) bytes.now ≡ Ok (with_head h b))
+        (λ e. read_at (modulus_size modulus) bytes.now ≡ Err e) }
 {
     // By the laws of the spelling octets that begin with a head end it at one place.
     laws::head_spelling();
     laws::frame_spelling();
-    behind_head(M::SIZE, at, bytes)
+    behind_head(modulus, at, bytes)
 }
 
 /// What stands behind a head that ends at a place.
 #[inline(always)]
-fn behind_head(size: u64, at: usize, bytes: &[u8]) -> Result<Behind<'_>, FrameRefusal>
-    requires modulus { IsLinkModulus size }
+fn behind_head(modulus: LinkModulus, at: usize, bytes: &[u8]) -> Result<Behind<'_>, FrameRefusal>
     requires within { at ≤ length bytes.now }
     requires ends { reading.head_end bytes.now ≡ Ok at }
-    ensures found { IfOk result (λ b. (h : Head) → BeginsWith bytes.now h at → Spells size (with_head h b) bytes.now) }
-    ensures refused { result_err result ≡ reading.first_fault size bytes.now }
+    ensures found { IfOk result (λ b. (h : Head) → BeginsWith bytes.now h at
+        → Spells (modulus_size modulus) (with_head h b) bytes.now) }
+    ensures refused { result_err result ≡ reading.first_fault (modulus_size modulus) bytes.now }
 {
-    let (control, pid, at) = parts(size, bytes, at)?;
+    let (control, pid, at) = parts(modulus, bytes, at)?;
     let info = &bytes[at..];
     Ok(Behind { control, pid, info })
 }
@@ -147,14 +151,17 @@ fn behind_head(size: u64, at: usize, bytes: &[u8]) -> Result<Behind<'_>, FrameRe
 /// What stands between the head, which ends at a place, and the information, and where that begins.
 #[inline(never)]
 #[tactic(auto, unfolding(crate::specs::Reading::frame_at))]
-fn parts(size: u64, bytes: &[u8], at: usize) -> Result<(Control, Option<u8>, usize), FrameRefusal>
-    requires modulus { IsLinkModulus size }
+fn parts(
+    modulus: LinkModulus,
+    bytes: &[u8],
+    at: usize,
+) -> Result<(Control, Option<u8>, usize), FrameRefusal>
     requires within { at ≤ length bytes.now }
     requires ends { reading.head_end bytes.now ≡ Ok at }
-    ensures judged { result ≡ reading.frame_at size bytes.now }
+    ensures judged { result ≡ reading.frame_at (modulus_size modulus) bytes.now }
     ensures within { IfOk result (λ x. x.2 ≤ length bytes.now) }
 {
-    let (control, at) = control_at(size, bytes, at)?;
+    let (control, at) = control_at(modulus, bytes, at)?;
     let (pid, at) = pid_at(&control, bytes, at)?;
     Ok((control, pid, at))
 }
@@ -206,31 +213,35 @@ fn address_at(bytes: &[u8], at: usize) -> Result<(Address, bool), FrameRefusal>
     }
 }
 
-/// The control field at a place, with sequence numbers modulo `size`, and where it ends.
+/// The control field at a place, and where it ends.
 #[tactic(auto, unfolding(crate::specs::Reading::control_at))]
-fn control_at(size: u64, bytes: &[u8], at: usize) -> Result<(Control, usize), FrameRefusal>
+fn control_at(
+    modulus: LinkModulus,
+    bytes: &[u8],
+    at: usize,
+) -> Result<(Control, usize), FrameRefusal>
     requires { at ≤ length bytes.now }
-    ensures { result ≡ reading.control_at size at bytes.now }
+    ensures { result ≡ reading.control_at (modulus_size modulus) at bytes.now }
 {
     match bytes.get(at).copied() {
         None => Err(FrameRefusal::Short { at }),
-        Some(first) => control_from(size, at, first, bytes.get(at + 1).copied()),
+        Some(first) => control_from(modulus, at, first, bytes.get(at + 1).copied()),
     }
 }
 
 fn control_from(
-    size: u64,
+    modulus: LinkModulus,
     at: usize,
     first: u8,
     next: Option<u8>,
 ) -> Result<(Control, usize), FrameRefusal>
     requires { at + 2 < 2 ^ 64 }
-    ensures { result ≡ reading.control_from size at first next }
+    ensures { result ≡ reading.control_from (modulus_size modulus) at first next }
 {
     let pf = (first >> 4) % 2 == 1;
     if first % 4 == 3 {
         field_end(at, at + 1, unnumbered(first - 16 * ((first >> 4) % 2), pf))
-    } else if size == 8 {
+    } else if matches!(modulus, LinkModulus::Modulo8) {
         field_end(
             at,
             at + 1,

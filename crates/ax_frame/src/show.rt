@@ -1,4 +1,4 @@
-//! The text of a frame, as `frames` and the report show it (this project's profile).
+//! The text of a frame, as `frames` and the report show it (this project's profile). Called by `link_life`, the replay and `frame_lines`.
 ghost use Rattle.std.specs.Prelude.{◌≡◌, ◌<◌, ◌≤◌, ◌+◌, ◌*◌, ◌++◌, ◌∷◌, [], ℕ, length, OnOk, OnErr, IfOk};
 ghost use Rattle.std.specs.List.{flat_map};
 ghost use Rattle.radio_base.specs.Text.{hex_digit};

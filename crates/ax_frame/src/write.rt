@@ -1,15 +1,16 @@
-//! Frames become octets (AX.25 2.2, sections 3 and 4).
+//! Frames become octets (AX.25 2.2, sections 3 and 4). Called by `link_table`, `node_core` and `tool_cmd`.
 ghost use Rattle.std.specs.Prelude.{◌≡◌, ◌<◌, ◌≤◌, ◌+◌, ◌*◌, ◌++◌, ◌∷◌, [], ◌↔◌, ℕ, Bool, length, IsErr, IsTrue, OnOk, OnErr, None, Some, false, is_some};
 ghost use Rattle.std.specs.List.{AllByRecursion, flat_map};
 ghost use Rattle.ax_address.specs.Octets.{address_octets};
 ghost use Rattle.ax_frame.specs.Controls as controls;
+ghost use Rattle.radio_base.specs.Modulus.{modulus_size};
 ghost use Rattle.ax_frame.specs.Frames.{IsAddress, Spells, HasParts, addresses, addresses_octets, frame, frame_octets};
 
 use crate::control::Format;
 use crate::{Control, FrameBytes, Full, Head};
 use arrayvec::ArrayVec;
 use ax_address::{Address, write_address};
-use radio_base::Modulus;
+use radio_base::{LinkModulus, Modulus};
 
 /// The octets before the information: at most ten addresses, two octets of control and a PID.
 type Start = ArrayVec<u8, 73>;
@@ -34,7 +35,7 @@ pub fn write_frame<M: Modulus>(
 {
     let mut start = Start::new();
     push_head(head, &mut start);
-    push_control(M::SIZE, control, &mut start);
+    push_control(LinkModulus::of::<M>(), control, &mut start);
     if let Some(pid) = pid {
         start.push(pid);
     }
@@ -92,31 +93,37 @@ fn push(octets: &[u8], start: &mut Start)
     let _ = start.try_extend_from_slice(octets);
 }
 
-/// A control field, with sequence numbers modulo `size`.
-fn push_control(size: u64, control: &Control, start: &mut Start)
-    requires modulus { controls.IsLinkModulus size }
-    requires fits { controls.NumbersFit size control.now }
+/// A control field, with sequence numbers of this modulus.
+fn push_control(modulus: LinkModulus, control: &Control, start: &mut Start)
+    requires fits { controls.NumbersFit (modulus_size modulus) control.now }
     requires room { length start.old.items + 2 ≤ 73 }
-    ensures spelled { start.new.items ≡ start.old.items ++ controls.control_octets size control.now }
+    ensures spelled { start.new.items ≡ start.old.items ++ controls.control_octets (modulus_size modulus) control.now }
     ensures len { length start.new.items ≤ length start.old.items + 2 }
 {
-    push_format(size, control.format(), start);
+    push_format(modulus, control.format(), start);
 }
 
-fn push_format(size: u64, format: Format, start: &mut Start)
-    requires modulus { controls.IsLinkModulus size }
-    requires fits { controls.FormatFits size format }
+fn push_format(modulus: LinkModulus, format: Format, start: &mut Start)
+    requires fits { controls.FormatFits (modulus_size modulus) format }
     requires code { controls.CodeFits format }
     requires room { length start.old.items + 2 ≤ 73 }
-    ensures spelled { start.new.items ≡ start.old.items ++ controls.format_octets size format }
+    ensures spelled { start.new.items ≡ start.old.items ++ controls.format_octets (modulus_size modulus) format }
     ensures len { length start.new.items ≤ length start.old.items + 2 }
 {
-    match format {
-        Format::Information { ns, nr, pf } if size == 8 => push_short(2 * ns, nr, pf, start),
-        Format::Information { ns, nr, pf } => push_wide(2 * ns, nr, pf, start),
-        Format::Supervisory { code, nr, pf } if size == 8 => push_short(code, nr, pf, start),
-        Format::Supervisory { code, nr, pf } => push_wide(code, nr, pf, start),
-        Format::Unnumbered { code, pf } => start.push(code + poll(pf)),
+    match (format, modulus) {
+        (Format::Information { ns, nr, pf }, LinkModulus::Modulo8) => {
+            push_short(2 * ns, nr, pf, start)
+        }
+        (Format::Information { ns, nr, pf }, LinkModulus::Modulo128) => {
+            push_extended(2 * ns, nr, pf, start)
+        }
+        (Format::Supervisory { code, nr, pf }, LinkModulus::Modulo8) => {
+            push_short(code, nr, pf, start)
+        }
+        (Format::Supervisory { code, nr, pf }, LinkModulus::Modulo128) => {
+            push_extended(code, nr, pf, start)
+        }
+        (Format::Unnumbered { code, pf }, _) => start.push(code + poll(pf)),
     }
 }
 
@@ -131,8 +138,8 @@ fn push_short(low: u8, nr: u8, pf: bool, start: &mut Start)
     start.push(32 * nr + poll(pf) + low);
 }
 
-/// A field of two octets, of which the second has the sequence number and the P/F bit.
-fn push_wide(first: u8, nr: u8, pf: bool, start: &mut Start)
+/// An extended field has two octets, of which the second has the sequence number and the P/F bit.
+fn push_extended(first: u8, nr: u8, pf: bool, start: &mut Start)
     requires nr { nr < 128 }
     requires room { length start.old.items + 1 < 73 }
     ensures spelled { start.new.items ≡ start.old.items ++ first ∷ (2 * nr + controls.low_bit pf) ∷ [] }

@@ -1,15 +1,12 @@
 -- Packets that go on.
-use Rattle.std.proofs.Common.{◌≡◌, ◌≢◌, ◌<◌, ◌≤◌, ◌+◌, ◌-◌, ◌*◌, ◌/◌, ◌%◌, ◌∙◌, ℕ, suc, refl, sym, subst, List, [], ◌∷◌, length, take, drop, get_or, set, arith, Bool, true}
+use Rattle.std.proofs.Common.{◌≡◌, ◌≢◌, ◌<◌, ◌≤◌, ◌+◌, ◌-◌, ◌*◌, ◌/◌, ◌%◌, ◌∙◌, ℕ, suc, refl, sym, subst, List, [], ◌∷◌, length, take, drop, get_or, set, arith, true}
 use Rattle.std.specs.Prelude.{nat_lt, ◌&&◌, ◌==◌}
-use Rattle.std.proofs.lemmas.Bool.{eq-eqb}
+use Rattle.std.proofs.lemmas.Bool.{eq-eqb, and_from}
 use Rattle.std.proofs.lemmas.Bool.Decides.{nat_tests}
 use Rattle.std.proofs.lemmas.List.{length-set, length-take, get_or-set_same, get_or-set_other, get_or-take}
 use Rattle.ax_ip.specs.Machine.{onward, header_sum}
 use Rattle.ax_ip.specs.Laws.{OnwardIsPacket, OnwardIsTheSame}
 use Rattle.ax_ip.specs.Packets.{octet, long, PacketHead, SpellsPacket, is_right, lacking, word_sum}
-
-both_true : (p q : Bool) → p ≡ true → q ≡ true → (p && q) ≡ true
-both_true p q h g = rw (h, g) refl
 
 twelve : (p : List ℕ) → 12 ≤ length p → p ≡ get_or p 0 0 ∷ get_or p 1 0 ∷ get_or p 2 0 ∷ get_or p 3 0 ∷ get_or p 4 0 ∷ get_or p 5 0 ∷ get_or p 6 0 ∷ get_or p 7 0 ∷ get_or p 8 0 ∷ get_or p 9 0 ∷ get_or p 10 0 ∷ get_or p 11 0 ∷ drop 12 p
 twelve [] h = absurd (omega arith)
@@ -31,7 +28,7 @@ balanced : (a b t : ℕ) → 0 < t → t ≡ a + (256 * (lacking (a + b) / 256) 
 balanced a b t some e =
     let multiple : t % 65535 ≡ 0 = omega (arith, e) in
     let first : nat_lt 0 t ≡ true = grind (arith, nat_tests) in
-    both_true (nat_lt 0 t) (t % 65535 == 0) first (eq-eqb (t % 65535) 0 multiple)
+    and_from (nat_lt 0 t) (t % 65535 == 0) first (eq-eqb (t % 65535) 0 multiple)
 
 signed_right : (x0 x1 x2 x3 x4 x5 x6 x7 x8 x9 : ℕ) (rest : List ℕ) (n header s : ℕ) → header ≡ suc (suc (suc (suc (suc (suc (suc (suc (suc (suc (suc (suc n))))))))))) → 0 < x0
     → s ≡ lacking (word_sum (x0 ∷ x1 ∷ x2 ∷ x3 ∷ x4 ∷ x5 ∷ x6 ∷ x7 ∷ x8 ∷ x9 ∷ []) + word_sum (take n rest))

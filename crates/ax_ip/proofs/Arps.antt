@@ -1,12 +1,13 @@
 -- Messages of ARP that are spelled are read, and what is written spells them.
-use Rattle.std.proofs.Common.{◌≡◌, ◌<◌, ◌+◌, ◌-◌, ◌*◌, ◌/◌, ◌%◌, ◌^◌, ◌++◌, ◌∙◌, ℕ, refl, sym, ap, subst, List, [], ◌∷◌, length, take, drop, map, replicate, get_or, arith, Bool, true, false, cond}
-use Rattle.std.proofs.lemmas.List.{length-append, length-map, length-replicate}
+use Rattle.std.proofs.Common.{◌≡◌, ◌<◌, ◌+◌, ◌-◌, ◌*◌, ◌/◌, ◌%◌, ◌^◌, ◌++◌, ℕ, refl, sym, ap, subst, List, [], ◌∷◌, length, take, drop, get_or, arith, Bool, true, false, cond}
 use Rattle.std.specs.Prelude.{Option, Some, None, Result, Ok, Err, is_some, nat_lt, not, ◌&&◌, ◌==◌}
 use Rattle.std.proofs.lemmas.Bool.{eq-eqb}
 use Rattle.std.proofs.lemmas.Bool.Decides.{nat_tests}
-use Rattle.ax_address.specs.Callsign.{Callsign, IsCallsign, name_in, padded}
+use Rattle.ax_address.specs.Callsign.{Callsign}
 use Rattle.ax_address.specs.Octets.{SpelledNetCallIsRead, WrittenNetCallSpellsIt, SpellsNetCall, net_call_at, net_call_octets}
 use Rattle.ax_address.specs.Results.{◌>>=◌}
+use Rattle.ax_address.proofs.CallOctets.{seven}
+use Rattle.ax_address.proofs.NetCallLaws.{call_len}
 use Rattle.ax_ip.specs.declared.arp.ArpRefusal.{ArpRefusal}
 use Rattle.ax_ip.specs.declared.arp.ArpRefusal.TheVariants.{Short, NotAx25}
 use Rattle.ax_ip.specs.Packets.{octet, word, long, long_octets}
@@ -62,17 +63,6 @@ arp_read law a os h =
 
 -- what is written spells it
 
-seven : (s : List ℕ) → length s ≡ 7 → s ≡ get_or s 0 0 ∷ get_or s 1 0 ∷ get_or s 2 0 ∷ get_or s 3 0 ∷ get_or s 4 0 ∷ get_or s 5 0 ∷ get_or s 6 0 ∷ []
-seven [] h = absurd (omega arith)
-seven (a ∷ []) h = absurd (omega arith)
-seven (a ∷ b ∷ []) h = absurd (omega arith)
-seven (a ∷ b ∷ c ∷ []) h = absurd (omega arith)
-seven (a ∷ b ∷ c ∷ d ∷ []) h = absurd (omega arith)
-seven (a ∷ b ∷ c ∷ d ∷ e ∷ []) h = absurd (omega arith)
-seven (a ∷ b ∷ c ∷ d ∷ e ∷ f ∷ []) h = absurd (omega arith)
-seven (a ∷ b ∷ c ∷ d ∷ e ∷ f ∷ g ∷ []) h = refl
-seven (a ∷ b ∷ c ∷ d ∷ e ∷ f ∷ g ∷ i ∷ rest) h = absurd (omega arith)
-
 abbrev laid_out : Arp → List ℕ → List ℕ → List ℕ
 laid_out a s t = (0 ∷ 3 ∷ 0 ∷ 0xCC ∷ 7 ∷ 4 ∷ 0 ∷ operation a.reply ∷ []) ++ s ++ long_octets a.sender_ip ++ t ++ long_octets a.target_ip
 
@@ -101,16 +91,6 @@ spells_laid_out a s t ls lt m n hs ht =
     (laid_out_so a (get_or s 0 0) (get_or s 1 0) (get_or s 2 0) (get_or s 3 0) (get_or s 4 0) (get_or s 5 0) (get_or s 6 0)
     (get_or t 0 0) (get_or t 1 0) (get_or t 2 0) (get_or t 3 0) (get_or t 4 0) (get_or t 5 0) (get_or t 6 0) m n
     (subst (SpellsNetCall a.sender) es hs) (subst (SpellsTarget a.reply a.target) et ht)))
-
-abbrev doubles : List ℕ → List ℕ
-doubles letters = map (λ b. 2 * b) letters
-
-call_len : (c : Callsign) → IsCallsign c.letters c.ssid → length (net_call_octets c) ≡ 7
-call_len c h =
-    let name = name_in c.letters in
-    let six : length (padded name) ≡ 6 = omega (arith, length-append name (replicate (6 - length name) 32), length-replicate {A = ℕ} (6 - length name) 32, h.six) in
-    let doubled : length (doubles c.letters) ≡ 6 = length-map c.letters (λ b. 2 * b) ∙ (ap length h.spaces ∙ six) in
-    omega (arith, doubled, length-append (doubles c.letters) ((96 + 2 * c.ssid) ∷ []))
 
 target_len : (r : Bool) (t : Option Callsign) → IsTarget t → length (target_octets r t) ≡ 7
 target_len true (Some t) h = call_len t h

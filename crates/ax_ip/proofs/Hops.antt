@@ -1,7 +1,7 @@
 -- What is forwarded, and how often.
 use Rattle.std.proofs.Common.{◌≡◌, ◌<◌, ◌≤◌, ◌-◌, ◌/◌, ◌∙◌, ℕ, refl, sym, ap, subst, List, [], ◌∷◌, length, take, arith, Bool, true, false, cond}
-use Rattle.std.specs.Prelude.{Option, Some, None, Result, Ok, Err, nat_lt, nat_le, ◌==◌, not}
-use Rattle.std.proofs.lemmas.Bool.{eqb-true}
+use Rattle.std.specs.Prelude.{Option, Some, None, Result, Ok, Err, nat_lt, nat_le, ◌==◌}
+use Rattle.std.proofs.lemmas.Bool.{eqb-true, not-false}
 use Rattle.std.proofs.lemmas.Bool.Decides.{nat_tests}
 use Rattle.ax_address.specs.Callsign.{Callsign}
 use Rattle.ax_frame.specs.Frames.{Frame}
@@ -24,10 +24,6 @@ use Rattle.ax_ip.proofs.Aged.{onward_ttl}
 ok_else : (b : Bool) (e : PacketRefusal) (r : Result PacketHead PacketRefusal) (h : PacketHead) → cond b (Err e) r ≡ Ok h → (b ≡ false) × (r ≡ Ok h)
 ok_else true e r h k = absurd (cc)
 ok_else false e r h k = (refl, k)
-
-true_of : (b : Bool) → not b ≡ false → b ≡ true
-true_of true h = refl
-true_of false h = absurd (cc)
 
 within : (least n most : ℕ) → is_outside least n most ≡ false → (least ≤ n) × (n ≤ most)
 within least n most h = (grind (arith, nat_tests), grind (arith, nat_tests))
@@ -59,7 +55,7 @@ spelled os h k =
     let e = ok_else _ _ _ h d.1 in
     let f = ok_else _ _ _ h e.1 in
     let same : head_in os ≡ h = ok_same (Ok (head_in os)) (head_in os) h refl f.1 in
-    subst (λ x. SpellsPacket x os) same (spelled_head os a.0 b.0 (true_of _ c.0) d.0 e.0 (true_of _ f.0))
+    subst (λ x. SpellsPacket x os) same (spelled_head os a.0 b.0 (not-false _ c.0) d.0 e.0 (not-false _ f.0))
   where
     ok_same : (p : Result PacketHead PacketRefusal) (x y : PacketHead) → p ≡ Ok x → p ≡ Ok y → x ≡ y
     ok_same p x y e f = cc

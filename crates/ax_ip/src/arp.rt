@@ -1,4 +1,5 @@
-//! Messages of ARP: who has an address (RFC 826; the types and lengths of AX.25 are this project's profile).
+//! Messages of ARP: who has an address (RFC 826; the types and lengths of AX.25 are this project's profile). Called by `messages` and
+//! `packets`, and by `frame_lines`.
 ghost use Rattle.std.specs.Prelude.{◌≡◌, ◌+◌, ◌≤◌, ◌++◌, length, is_some, IfOk, Ok, true};
 ghost use Rattle.ax_address.specs.Octets.{SpellsNetCall};
 ghost use Rattle.ax_ip.specs.Arps as arps;

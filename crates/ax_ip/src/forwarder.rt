@@ -1,4 +1,4 @@
-//! A forwarder of packets: an IP gateway (RFC 791, section 2.4) with one address.
+//! A forwarder of packets: an IP gateway (RFC 791, section 2.4) with one address. Called by `tool_cmd`.
 ghost use Rattle.std.specs.Prelude.{◌≡◌, ◌++◌, ◌∷◌, [], None, OnOk, OnErr, true};
 ghost use Rattle.std.specs.Option.{option_copied};
 ghost use Rattle.ax_frame.specs.Frames.{view as frame_of};

@@ -1,4 +1,4 @@
-//! What a forwarder does with a frame, and why it drops one.
+//! What a forwarder does with a frame, and why it drops one. Used by `forwarder`, `messages` and `packets`.
 
 /// What a forwarder did with a frame.
 #[derive(Clone, Copy, Debug, PartialEq, Eq)]

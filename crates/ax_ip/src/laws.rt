@@ -1,4 +1,4 @@
-//! What the definitions promise by themselves.
+//! Laws of the definitions of packets, messages of ARP and forwarders alone. Called by `arp`.
 
 ghost use Rattle.ax_ip.specs.Laws as law;
 

@@ -1,4 +1,4 @@
-//! Numbers in octets, the high octet first (RFC 791, appendix B).
+//! Numbers in octets, the high octet first (RFC 791, appendix B). Called by most files here.
 ghost use Rattle.std.specs.Prelude.{◌≡◌, ◌+◌, ◌^◌, ◌<◌, ◌≤◌, ◌++◌, length};
 ghost use Rattle.ax_ip.specs.Packets as numbers;
 

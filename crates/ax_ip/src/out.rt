@@ -1,4 +1,4 @@
-//! What a forwarder sends.
+//! What a forwarder sends. Used by most files here, and by `tool_cmd`.
 use arrayvec::ArrayVec;
 use ax_address::Call;
 

@@ -1,4 +1,4 @@
-//! The header of a packet (RFC 791, section 3.1).
+//! The header of a packet (RFC 791, section 3.1). Called by `echo`, `onward` and `packets`, and by `frame_lines`.
 ghost use Rattle.std.specs.Prelude.{◌≡◌, ◌≤◌, length, IfOk, Ok};
 ghost use Rattle.ax_ip.specs.Packets as packets;
 

@@ -1,4 +1,4 @@
-//! A route.
+//! A route. Used by `forwarder` and `routes`.
 ghost use Rattle.std.specs.Prelude.{◌≤◌};
 
 /// Packets to the addresses that begin with the first `len` bits of `prefix` go to `hop`, or where that is 0 to their

@@ -118,7 +118,7 @@ on_on_srej now true nr g x = by (ack_place g.link nr)
 
 -- ---- payloads that come
 
-followed_phase : (k : ℕ) (s : State) → (follow_by k s).phase ≡ s.phase
+pub followed_phase : (k : ℕ) (s : State) → (follow_by k s).phase ≡ s.phase
 followed_phase zero s = refl
 followed_phase (suc k) s = by (next_early s) (λ p. followed_phase k (take_next p s))
   where
@@ -144,7 +144,7 @@ on_text_plain pf ns p g x =
     on_if (nat_eq ns (wire g.link (length g.link.received))) (take_in pf (record (take_next p g.link) { rej_sent = false }) g) (ask_again pf g)
     (on_take_in pf (record (take_next p g.link) { rej_sent = false }) g refl x) (on_ask_again pf g x)
 
-stored_phase : (b : Bool) (i : ℕ) (p : Payload) (s : State) → (if b then record s { early = slice_set s.early i (Some p) } else s).phase ≡ s.phase
+pub stored_phase : (b : Bool) (i : ℕ) (p : Payload) (s : State) → (if b then record s { early = slice_set s.early i (Some p) } else s).phase ≡ s.phase
 stored_phase true i p s = refl
 stored_phase false i p s = refl
 

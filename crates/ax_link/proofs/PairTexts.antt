@@ -37,7 +37,7 @@ top_first [] p h = absurd (cc h)
 top_first (None ∷ e) p h = absurd (cc h)
 top_first (Some q ∷ e) p h = omega arith
 
-next_cut : (b : Bool) (e : List (Option Payload)) (p : Payload) → (if b then None else first_early e) ≡ Some p → first_early e ≡ Some p
+pub next_cut : (b : Bool) (e : List (Option Payload)) (p : Payload) → (if b then None else first_early e) ≡ Some p → first_early e ≡ Some p
 next_cut true e p h = absurd (cc h)
 next_cut false e p h = h
 

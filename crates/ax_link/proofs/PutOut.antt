@@ -1,5 +1,5 @@
 -- What a step puts out, and what it keeps.
-use Rattle.std.proofs.Common.{◌≡◌, ℕ, ◌+◌, ◌<◌, ◌≤◌, Bool, true, false, ◌&&◌, ◌||◌, List, [], ◌∷◌, ◌++◌, length, drop, replicate, Option, Some, None, slice_set, refl, ap, sym, ◌∙◌, arith, append_assoc, length-append}
+use Rattle.std.proofs.Common.{◌≡◌, ℕ, ◌+◌, ◌<◌, ◌≤◌, Bool, true, false, ◌&&◌, List, [], ◌∷◌, ◌++◌, length, drop, replicate, Option, Some, None, slice_set, refl, ap, sym, ◌∙◌, arith, append_assoc, length-append}
 use Rattle.std.proofs.lemmas.List.{length-drop, length-replicate, length-set}
 use Rattle.radio_base.specs.declared.payload.Payload.{Payload}
 use Rattle.ax_link.specs.declared.kind.Kind.{Kind}
@@ -49,14 +49,6 @@ suffix_more p xs ys (front, is) = (front, sym (append_assoc front xs (p ∷ []))
 suffix_less : {A : Type 0} (xs ys : List A) → IsSuffix xs ys → IsSuffix (drop 1 xs) ys
 suffix_less [] ys s = s
 suffix_less (x ∷ xs) ys (front, is) = (front ++ x ∷ [], append_assoc front (x ∷ []) xs ∙ is)
-
-pub neither : (a b : Bool) → (a || b) ≡ false → (a ≡ false) × (b ≡ false)
-neither true b e = absurd (cc e)
-neither false b e = (refl, e)
-
-pub both_false : (a b : Bool) → a ≡ false → b ≡ false → (a || b) ≡ false
-both_false true b e f = absurd (cc e)
-both_false false b e f = f
 
 pub room_for : (a b c d : Bool) → (a && (b && (c && d))) ≡ true → (c ≡ true) × (d ≡ true)
 room_for true true true true e = (refl, refl)

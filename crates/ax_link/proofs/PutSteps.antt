@@ -2,6 +2,7 @@
 use Rattle.std.proofs.Common.{◌≡◌, ℕ, zero, suc, ◌+◌, ◌-◌, ◌%◌, ◌<◌, ◌≤◌, Bool, true, false, not, ◌&&◌, ◌||◌, nat_eq, nat_lt, nat_le, if◌then◌else◌, List, [], ◌∷◌, ◌++◌, length, drop, replicate, min, Option, Some, None, slice_get, slice_set, refl, sym, subst, arith}
 use Rattle.std.proofs.lemmas.Bool.Decides.{nat_tests}
 use Rattle.std.specs.List.{AllByRecursion}
+use Rattle.std.proofs.lemmas.Bool.{or_parts, or_from}
 use Rattle.radio_base.specs.declared.payload.Payload.{Payload}
 use Rattle.radio_base.specs.Modulus.{place_of}
 use Rattle.ax_link.specs.declared.kind.Kind.{Kind}
@@ -13,7 +14,7 @@ use Rattle.ax_link.specs.Moves.{acknowledge, again, answer_poll, ask, ask_again,
 use Rattle.ax_link.specs.Table.{Input, Set_up, Send, Arrive, Tick, Close, Take, accept, arrive_down, arrive_in, arrive_releasing, arrive_setting_up, arrive_up, close_in_turn, expire, fail_in, fail, may_close, come_up, refuse_if, retry, retry_in, set_up_in, step_at, takes, tick}
 use Rattle.ax_link.specs.Bounds.{Bounded, Stock, stock, Brings, Has, HasIf, HavePayloads}
 use Rattle.ax_link.proofs.Ways.{place_in}
-use Rattle.ax_link.proofs.PutOut.{IsPut, IsPutOut, some, with_sent, with_acked, neither, both_false, room_for, with_next, with_early, with_given, with_rest, emptied}
+use Rattle.ax_link.proofs.PutOut.{IsPut, IsPutOut, some, with_sent, with_acked, room_for, with_next, with_early, with_given, with_rest, emptied}
 
 module _ (given came : Payload → Bool) where
   abbrev Holds : Stock → Type 0
@@ -178,7 +179,7 @@ module _ (given came : Payload → Bool) where
 
   taken_next : (p : Payload) (s : State) → (busy s || nat_le count_end (length s.received)) ≡ false → Has came p → Holds (stock s) → Holds (stock (take_next p s))
   taken_next p s free a x =
-      let f = neither (busy s) (nat_le count_end (length s.received)) free in (
+      let f = or_parts (busy s) (nat_le count_end (length s.received)) free in (
         with_next (stock s) p (grind (arith, nat_tests, f.1)) (grind (arith, nat_tests, f.0)) x.0,
         record {
           given = x.1.given;
@@ -267,7 +268,7 @@ module _ (given came : Payload → Bool) where
       by true full e f = x
       by false true e f = good_put false (kind.Rnr (wire g.link (length g.link.received)) pf) g (below (length g.link.received) g.link.rules.size (some (stock g.link) x.0.0)) x
       by false false e f =
-          let free = both_false (busy g.link) (nat_le count_end (length g.link.received)) f e in
+          let free = or_from (busy g.link) (nat_le count_end (length g.link.received)) f e in
           good_if g.link.rules.srej (text_srej pf ns p g) (text_plain pf ns p g) (good_text_srej pf ns p g free a x) (good_text_plain pf ns p g free a x)
 
   good_on_i : (now : ℕ) (pf : Bool) (ns nr : ℕ) (p : Option Payload) (g : Effect) → HasIf came p → Good g → Good (on_i now pf ns nr p g)

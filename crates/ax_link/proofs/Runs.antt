@@ -1,5 +1,6 @@
 -- A run of two ends.
-use Rattle.std.proofs.Common.{◌≡◌, ℕ, ◌+◌, ◌≤◌, Bool, true, false, ◌||◌, List, [], ◌∷◌, ◌++◌, length, refl, ap, sym, ◌∙◌, subst, arith, inl, inr, min}
+use Rattle.std.proofs.Common.{◌≡◌, ℕ, ◌+◌, ◌≤◌, true, ◌||◌, List, [], ◌∷◌, ◌++◌, length, refl, ap, sym, ◌∙◌, subst, arith, inl, inr, min}
+use Rattle.std.proofs.lemmas.Bool.{or_right, or_left}
 use Rattle.radio_base.specs.declared.modulus.TheConstants.{COUNT_MAX}
 use Rattle.ax_link.specs.declared.phase.LinkPhase.{LinkPhase}
 use Rattle.ax_link.specs.declared.phase.LinkPhase.TheVariants.{Down, Up}
@@ -81,23 +82,15 @@ other_always w v = record { holds = other_holds w.left.link w.right.link w.left.
 pub other_clean : (w : Ends) → Clean (swap w) → Clean w
 other_clean w c = record { set_ups = omega (arith, c.set_ups); left = c.right; right = c.left }
 
-pub or_first : (a b : Bool) → a ≡ true → (a || b) ≡ true
-or_first true b e = refl
-or_first false b e = absurd (cc e)
-
-pub or_second : (a b : Bool) → b ≡ true → (a || b) ≡ true
-or_second true b e = refl
-or_second false b e = e
-
 -- what a step of the left end shows, where it is clean
 pub kept_by : (e : End) (g : Effect) (coming : List Frame) → Marked e → ((after e g coming).was_up ≡ true → g.link.phase ≡ Up) → Kept e.link g
 kept_by e g coming m c = record {
-  up = λ u. c (or_first e.was_up (is_up g.link.phase || told_opened g.notes) (m u));
-  told = λ t. c (or_second e.was_up (is_up g.link.phase || told_opened g.notes) (or_second (is_up g.link.phase) (told_opened g.notes) t));
+  up = λ u. c (or_left e.was_up (is_up g.link.phase || told_opened g.notes) (m u));
+  told = λ t. c (or_right e.was_up (is_up g.link.phase || told_opened g.notes) (or_right (is_up g.link.phase) (told_opened g.notes) t));
 }
 
 pub marked_after : (e : End) (g : Effect) (coming : List Frame) → Marked (after e g coming)
-marked_after e g coming u = or_second e.was_up (is_up g.link.phase || told_opened g.notes) (or_first (is_up g.link.phase) (told_opened g.notes) (ap is_up u))
+marked_after e g coming u = or_right e.was_up (is_up g.link.phase || told_opened g.notes) (or_left (is_up g.link.phase) (told_opened g.notes) (ap is_up u))
 
 pub step_always : (now : ℕ) (i : Input) (w : Ends) (coming : List Frame) → Queue i w.left.coming coming → Always w → Clean (steps w (step_at now w.left.link i) coming) → Always (steps w (step_at now w.left.link i) coming)
 step_always now i w coming e v c = record {

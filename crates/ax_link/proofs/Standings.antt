@@ -162,3 +162,8 @@ taken_from_full size h rest later e test does =
     standing size h later take_first (λ before received a b.
     let r : LinkView = record h { inbox = drop 1 h.inbox } in
     rw test (does (effect_of size r before received) (subst (λ (x : LinkView). KeepsEffect size x (effect_of size r before received)) (sym e) (itself size r before received a b))))
+
+-- all but the frames stays
+pub outs_alone : (old mid new : LinkView) → mid ≡ record old { outs = mid.outs } → new ≡ record mid { outs = drop 1 mid.outs } → new ≡ record old { outs = new.outs }
+outs_alone old mid new first next =
+    next ∙ ap (λ (h : LinkView). record h { outs = drop 1 mid.outs }) first ∙ ap (λ xs. record old { outs = xs }) (sym (ap (λ (h : LinkView). h.outs) next))

@@ -8,8 +8,9 @@ use Rattle.ax_link.specs.State.{State, Frame, Effect, high, wire, update_t1, is_
 use Rattle.ax_link.specs.declared.phase.LinkPhase.TheVariants.{Releasing}
 use Rattle.radio_base.specs.Modulus.{place_of}
 use Rattle.radio_base.specs.declared.payload.Payload.{Payload}
+use Rattle.radio_base.proofs.Places.{near_equal}
 use Rattle.ax_link.specs.Pair.{Both, Core, core, reach, AcksFine, TextsFine, text_of, ack_of, texts_of, acks_of, Way}
-use Rattle.ax_link.proofs.Ways.{near_equal, place_is, place_in, acks_low, acks_over, acks_snoc, texts_reach, texts_snoc, texts_over, held_take, high_take}
+use Rattle.ax_link.proofs.Ways.{place_is, place_in, acks_low, acks_over, acks_snoc, texts_reach, texts_snoc, texts_over, held_take, high_take}
 
 pub texts_append : (xs ys : List Frame) → texts_of (xs ++ ys) ≡ texts_of xs ++ texts_of ys
 texts_append [] ys = refl

@@ -1,8 +1,6 @@
 -- What is under way.
-use Rattle.std.proofs.Common.{◌≡◌, ℕ, zero, suc, ◌+◌, ◌-◌, ◌*◌, ◌/◌, ◌%◌, ◌<◌, ◌≤◌, List, [], ◌∷◌, ◌++◌, length, drop, Option, Some, slice_get, nat_lt, inl, inr, refl, ap, ◌∙◌, arith, ◌⊎◌, max, if◌then◌else◌, ◌&&◌, true, false, None, Bool, nat_eq, slice_set, subst, length-append}
+use Rattle.std.proofs.Common.{◌≡◌, ℕ, zero, suc, ◌+◌, ◌-◌, ◌*◌, ◌/◌, ◌%◌, ◌<◌, ◌≤◌, List, [], ◌∷◌, ◌++◌, length, drop, Option, Some, slice_get, nat_lt, refl, ap, ◌∙◌, arith, max, if◌then◌else◌, ◌&&◌, true, false, None, Bool, nat_eq, slice_set, subst, length-append}
 use Rattle.std.proofs.lemmas.Bool.Decides.{nat_tests}
-use Rattle.std.proofs.lemmas.Bool.{cases_order}
-use Rattle.std.proofs.lemmas.Nat.{mul-le}
 use Rattle.std.proofs.Math.Nat.{mod-eq_of_lt, mod-add-mod, add-mod-mod, mul-add-mod_self_left}
 use mathlib.Core.List.{IsPrefix}
 use Rattle.ax_link.specs.Moves.{take_next}
@@ -10,20 +8,6 @@ use Rattle.ax_link.specs.State.{State, top, high}
 use Rattle.radio_base.specs.Modulus.{place_of}
 use Rattle.radio_base.specs.declared.payload.Payload.{Payload}
 use Rattle.ax_link.specs.Pair.{AcksFine, TextsFine, EarlyFine}
-
-product_suc : (k q p : ℕ) → q < p → k * q + k ≤ k * p
-product_suc k q p l =
-    let m : k * (q + 1) ≤ k * p = mul-le k (q + 1) k p (omega arith) (omega (arith, l)) in
-    omega (arith, m)
-
-near_by : (a b size : ℕ) → 0 < size → a % size ≡ b % size → a < b + size → b < a + size → (a / size ≡ b / size) ⊎ ((a / size < b / size) ⊎ (b / size < a / size)) → a ≡ b
-near_by a b size z e l r (inl q) = omega (arith, z, e, ap (λ k. size * k) q)
-near_by a b size z e l r (inr (inl q)) = absurd (omega (arith, z, e, l, r, product_suc size (a / size) (b / size) q))
-near_by a b size z e l r (inr (inr q)) = absurd (omega (arith, z, e, l, r, product_suc size (b / size) (a / size) q))
-
--- two numbers less than size apart with one wire form are one
-pub near_equal : (a b size : ℕ) → 0 < size → a % size ≡ b % size → a < b + size → b < a + size → a ≡ b
-near_equal a b size z e l r = near_by a b size z e l r (cases_order (a / size) (b / size))
 
 -- n lies far past base: the way that place_of goes
 far_is : (n base size : ℕ) → 0 < size → base ≤ n → n < base + size → (n % size + (size - base % size)) % size ≡ n - base

@@ -1,4 +1,4 @@
-//! The settings of a link.
+//! The settings of a link. Used by `calls` and `link`, and by `link_life`, `link_table` and crates above.
 
 /// The settings of a link. A time is in milliseconds, and at most 2^62 of them.
 #[derive(Clone, Copy, Debug, PartialEq, Eq)]

@@ -8,7 +8,7 @@ ghost use Rattle.ax_link.specs.Calls.{is_filled, with_early};
 
 use crate::i_frame::IFrame;
 use crate::machine::{Machine, push};
-use crate::moves::{copy_of, payload_of};
+use crate::moves::copy_of;
 use ax_frame::Control;
 use circular_buffer::HeapCircularBuffer;
 use radio_base::{COUNT_MAX, Modulus, Payload};
@@ -54,7 +54,7 @@ fn keep(early: &mut Places, place: usize, pid: u8, info: &[u8])
 {
     if let Some(kept) = early.get_mut(place) {
         if kept.is_none() {
-            *kept = Some(payload_of(pid, info));
+            *kept = Some(Payload::of(pid, info));
         }
     }
 }
@@ -87,7 +87,7 @@ impl<M: Modulus> Machine<M> {
         ensures does { Does M.SIZE (take_next_payload (payload pid info.now)) self.old self.new }
         ensures adds { Adds 0 (view_of self.old) (view_of self.new) }
     {
-        push(&mut self.inbox, payload_of(pid, info));
+        push(&mut self.inbox, Payload::of(pid, info));
         self.got += 1;
         bring_nearer(&mut self.early);
     }

@@ -1,4 +1,4 @@
-//! What a link tells of itself.
+//! What a link tells of itself. Used by `link`, and by `link_life` and `link_table`.
 use crate::phase::LinkPhase;
 
 /// What a link tells of itself.

@@ -1,4 +1,4 @@
-//! What an I frame brings (AX.25 2.2, section 4.3.1).
+//! What an I frame brings (AX.25 2.2, section 4.3.1). Used by `arrivals`, `early`, `frame_in` and `texts`.
 ghost use Rattle.std.specs.Prelude.{◌≤◌, length};
 
 /// What an I frame brings: N(S), the poll bit, and a payload, whose octets stay where they were read.

@@ -1,4 +1,5 @@
-//! What holds of two ends of a link over a channel that loses frames but neither reorders nor repeats them.
+//! What holds of two ends of a link over a channel that loses frames but neither reorders nor repeats them. Called by the laws of
+//! `link_life` and `link_table`.
 ghost use Rattle.std.specs.Prelude.{◌≡◌, ◌≤◌, ◌++◌, ◌⊎◌, ℕ, List, [], ◌∷◌, false, true, length};
 ghost use mathlib.Core.List.{IsPrefix};
 ghost use Rattle.ax_link.specs.declared.kind.Kind.TheVariants.{Ua};

@@ -1,4 +1,4 @@
-//! One end of a link: its public calls.
+//! One end of a link: its public calls. Called by `link_life` and `link_table`.
 ghost use Rattle.std.specs.Prelude.{◌≡◌, ℕ, List, ◌≤◌, ◌<◌, drop, slice_get, IfOk, IfSome, OnOk, OnErr, IsTrue, ◌↔◌, ◌⊎◌, None, is_ok, min};
 ghost use Rattle.std.specs.Option.{option_copied};
 ghost use Rattle.ax_link.specs.Kinds.{frame_in};

@@ -1,4 +1,4 @@
-//! What one end of a link keeps.
+//! What one end of a link keeps. Called by most files here.
 ghost use Rattle.std.specs.Prelude.{◌≡◌, ℕ, Bool, List, ◌+◌, ◌*◌, ◌≤◌, ◌<◌, ◌++◌, ◌∷◌, [], nat_le, if◌then◌else◌, length, true, false, None, Some};
 ghost use Rattle.circular_buffer.specs.Buffer.{buffer};
 ghost use Rattle.radio_base.specs.declared.modulus.TheConstants.{COUNT_MAX};

@@ -1,35 +1,20 @@
 //! The moves of which a link's steps are made: Fill, Again, Poll, Reset and the rest.
 ghost use Rattle.std.specs.Prelude.{◌≡◌, ℕ, Bool, List, ◌+◌, ◌-◌, ◌*◌, ◌≤◌, ◌<◌, ◌++◌, ◌∷◌, [], nat_eq, nat_le, length, drop, slice_get, true, false, None, Some};
 ghost use Rattle.circular_buffer.specs.Buffer.{buffer};
-ghost use Rattle.ax_link.specs.Kinds as kinds;
 
 use crate::machine::{Machine, push};
 use crate::out::LinkOut;
 use crate::phase::LinkPhase;
-use arrayvec::ArrayVec;
 use ax_frame::Control;
 use circular_buffer::HeapCircularBuffer;
 use radio_base::{Millis, Modulus, Payload};
-
-/// A payload of these octets, which are put where it stands, so that they are copied once.
-pub(crate) fn payload_of(pid: u8, info: &[u8]) -> Payload
-    requires { length info.now ≤ 256 }
-    ensures { result ≡ kinds.payload pid info.now }
-{
-    let mut payload = Payload {
-        pid,
-        info: ArrayVec::new(),
-    };
-    let _ = payload.info.try_extend_from_slice(info);
-    payload
-}
 
 /// A payload with the same text.
 pub(crate) fn copy_of(payload: &Payload) -> Payload
     ensures same { result ≡ payload.now }
     ensures small { length payload.now.info.items ≤ 256 }
 {
-    payload_of(payload.pid, payload.info.as_slice())
+    Payload::of(payload.pid, payload.info.as_slice())
 }
 
 /// Drops so many payloads from the front.

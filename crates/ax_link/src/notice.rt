@@ -1,4 +1,5 @@
-//! What a link tells of what has become of it.
+//! What a link tells of what has become of it. Used by `arrivals`, `expiry`, `link` and `machine`, and by `link_life`, `link_table` and
+//! crates above.
 
 /// What has become of a link.
 #[derive(Clone, Copy, Debug, PartialEq, Eq)]

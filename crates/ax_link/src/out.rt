@@ -1,4 +1,4 @@
-//! What a link puts out.
+//! What a link puts out. Used by `link`, `machine` and `moves`, and by `link_life` and `link_table`.
 use ax_frame::Control;
 use radio_base::Payload;
 

@@ -1,4 +1,4 @@
-//! Where an end of a link stands.
+//! Where an end of a link stands. Used by most files here, and by `link_life` and `link_table`.
 
 /// Where an end of a link stands. The standard's names are Disconnected, Awaiting Connection, Connected (while a poll isn't answered:
 /// Timer Recovery) and Awaiting Release.

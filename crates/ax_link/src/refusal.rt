@@ -1,4 +1,4 @@
-//! Why a link doesn't accept a payload.
+//! Why a link doesn't accept a payload. Used by `calls` and `link`, and by `link_life` and `link_table`.
 
 /// Why a payload isn't accepted.
 #[derive(Clone, Copy, Debug, PartialEq, Eq)]

@@ -1,4 +1,4 @@
-//! What a segment comes to.
+//! What a segment comes to. Used by `gathered` and `joiner`, and by `link_table`.
 
 /// What a segment comes to.
 #[derive(Debug, Drop, PartialEq, Eq)]

@@ -1,4 +1,4 @@
-//! Segments are joined to messages.
+//! Segments are joined to messages. Called by `link_table`.
 ghost use Rattle.std.specs.Prelude.{◌≡◌, ◌≤◌, length, IfOk, IfSome, OnOk, OnErr};
 ghost use Rattle.ax_segment.specs.Joining.{Nothing, join_step, held_of, whole_of, IsWithin, kept};
 ghost use Rattle.ax_segment.specs.Pushing.{answer_of};

@@ -1,4 +1,4 @@
-//! What holds of every message and its segments.
+//! What holds of every message and its segments. Called by the laws of `link_table`.
 ghost use Rattle.std.specs.Prelude.{◌≡◌};
 ghost use Rattle.ax_segment.specs.Joining.{KeepsFew, StaysWithin};
 ghost use Rattle.ax_segment.specs.Laws.{PiecesAreFull, SegmentsJoin, JoinedPrefix};

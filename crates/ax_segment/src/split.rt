@@ -1,4 +1,4 @@
-//! Messages are cut into segments.
+//! Messages are cut into segments. Called by `link_table`.
 ghost use Rattle.std.specs.Prelude.{◌≡◌, ℕ, ◌+◌, ◌<◌, ◌≤◌, ◌++◌, ◌∷◌, [], ◌↔◌, length, take, drop, IsOk, MatchOption, MatchResult};
 ghost use Rattle.ax_segment.specs.Segments.{segments_of, IsSplittable, HasCause};
 

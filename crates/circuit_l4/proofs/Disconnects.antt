@@ -75,7 +75,7 @@ more_infos : (g : Effect) (n many : ℕ) → NoRequest g.outs → NoRequest (g.o
 more_infos g n many none = both g.outs (infos g.end n many) none (no_request-infos g.end n many)
 
 -- ---- the parts of a step ----
-last : (a b c : Bool) → (a && b && c) ≡ true → c ≡ true
+pub last : (a b c : Bool) → (a && b && c) ≡ true → c ≡ true
 last true true c h = h
 last true false c h = absurd (cc h)
 last false b c h = absurd (cc h)
@@ -154,7 +154,7 @@ arrives Ended now t s e c = no_request (begin s) c nothing
 
 -- ---- expiries ----
 -- a try more
-abbrev again_later : ℕ → Effect → Effect
+abbrev pub again_later : ℕ → Effect → Effect
 again_later now g = on_state (λ s. wait now (record s { tries = suc s.tries })) g
 
 asks : (r : Role) (now : ℕ) (g : Effect) → Closes g.end → NoRequest g.outs → Sound (again_later now (ask_by r g))
@@ -201,7 +201,7 @@ refused true g h e k = absurd (cc e)
 refused false g h e k = k
 
 -- a message is accepted only by an end that is Up
-not_up : (s : State) (message : List ℕ) → is_up s.phase ≡ false → is_ok (write_answer s message) ≡ false
+pub not_up : (s : State) (message : List ℕ) → is_up s.phase ≡ false → is_ok (write_answer s message) ≡ false
 not_up s message e = rw e refl
 
 not_written : (now : ℕ) (message : List ℕ) (s : State) → is_up s.phase ≡ false → Closes s → Sound (step_at now (begin s) (Write message))

@@ -2,6 +2,7 @@
 use Rattle.std.proofs.Common.{◌≡◌, ℕ, suc, ◌+◌, ◌<◌, ◌≤◌, ◌⊎◌, ◌∙◌, ap, subst, sym, inl, inr, ⊎_elim, ◌↔◌, min, Bool, true, false, ◌&&◌, ◌||◌, not, nat_eq, nat_lt, if◌then◌else◌, is_ok, List, [], ◌∷◌, ◌++◌, length, Contains, Option, Some, None, refl, arith}
 use Rattle.std.proofs.lemmas.Bool.Decides.{nat_tests}
 use Rattle.std.proofs.lemmas.List.Elements as elements
+use Rattle.std.proofs.Math.Bool.{or-true}
 use Rattle.radio_base.specs.declared.modulus.TheConstants.{COUNT_MAX}
 use Rattle.circuit_l4.specs.declared.transport.Flags.{Flags}
 use Rattle.circuit_l4.specs.declared.pair.Pair.{Pair}
@@ -33,10 +34,6 @@ other_told : (notes : List EndNotice) (n : EndNotice) → (n ≡ FailedRetries �
 other_told notes n other h w = ⊎_elim h other (elements.Contains-push_cases notes n FailedRetries w)
 
 -- ---- whether the tries count anew ----
-or_true : (a : Bool) → (a || true) ≡ true
-or_true true = refl
-or_true false = refl
-
 and_not : (a b : Bool) → a ≡ b → (a && not b) ≡ false
 and_not true true e = refl
 and_not true false e = absurd (cc e)
@@ -90,7 +87,7 @@ ends_otherwise why s g other p =
     let over : State = (end_with why g).end in
     record { retries = p.retries; counts = ended_by s over refl p.counts; untold = other_told g.notes why other p.untold }
 
-first_of : (a b c : Bool) → (a && b && c) ≡ true → a ≡ true
+pub first_of : (a b c : Bool) → (a && b && c) ≡ true → a ≡ true
 first_of true b c e = refl
 first_of false b c e = e
 
@@ -104,7 +101,7 @@ finished : (done : Bool) (now : ℕ) (s : State) (g : Effect) → is_done g.end 
 finished true now s g e p =
     let up : is_up g.end.phase ≡ true = first_of (is_up g.end.phase) g.end.closing _ e in
     let before : is_closing s.phase ≡ false = sym p.closing ∙ not_closing g.end.phase up in
-    let anew : is_anew s (begin_to_close now g).end ≡ true = simp before (or_true (nat_lt s.sending.acked g.end.sending.acked)) in
+    let anew : is_anew s (begin_to_close now g).end ≡ true = simp before (or-true (nat_lt s.sending.acked g.end.sending.acked)) in
     record { retries = p.retries; counts = inl (anew, refl); untold = p.untold }
 finished false now s g e p = whole s g p
 
@@ -380,7 +377,7 @@ abbrev all_counted : ℕ → List Moment → ℕ
 all_counted n [] = n
 all_counted n (m ∷ ms) = all_counted (counted n m) ms
 
-since_all : (ms : List Moment) → any_renews ms ≡ false → since_last ms ≡ ms
+pub since_all : (ms : List Moment) → any_renews ms ≡ false → since_last ms ≡ ms
 since_all [] e = refl
 since_all (m ∷ ms) e =
     let none : (renews m || any_renews ms) ≡ false = e in
@@ -394,7 +391,7 @@ since_all (m ∷ ms) e =
 all_case : (a b c : Bool) (n : ℕ) (m : Moment) (ms : List Moment) → any_renews ms ≡ a → renews m ≡ b → expires m ≡ c
     → ((k : ℕ) → all_counted k ms ≡ (if any_renews ms then 0 else k) + expiries ms) → all_counted n (m ∷ ms) ≡ (if any_renews (m ∷ ms) then 0 else n) + expiries (m ∷ ms)
 all_case true b c n m ms e f g later =
-    let or : any_renews (m ∷ ms) ≡ true = simp e (or_true (renews m)) in
+    let or : any_renews (m ∷ ms) ≡ true = simp e (or-true (renews m)) in
     let first : all_counted n (m ∷ ms) ≡ 0 + expiries ms = subst (λ (x : Bool). all_counted (counted n m) ms ≡ (if x then 0 else counted n m) + expiries ms) e (later (counted n m)) in
     let rest : expiries (m ∷ ms) ≡ expiries ms = simp e refl in
     let none : (if any_renews (m ∷ ms) then 0 else n) ≡ 0 = ap (λ (x : Bool). if x then 0 else n) or in

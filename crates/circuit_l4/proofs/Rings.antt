@@ -3,9 +3,8 @@ use Rattle.std.proofs.Common.{◌≡◌, ℕ, zero, suc, ◌+◌, ◌*◌, ◌-�
 use Rattle.std.specs.Prelude.{slice_get}
 use Rattle.std.proofs.lemmas.Grind.{div_ceil_times}
 use Rattle.std.proofs.lemmas.List.{drop-drop, drop-take, length-take-le, take_min, drop_min}
-use Rattle.std.proofs.lemmas.List.FromFn.{length-map-range_with_len, get_or-map-range_with_len}
-use Rattle.std.proofs.lemmas.Option.{slice_get-get_or}
 use Rattle.circuit_reassembly.specs.Fragments.{Fragment, fragment_at, fragments_in, fragments_of}
+use Rattle.circuit_reassembly.proofs.Pieces.{counted, found}
 use Rattle.circuit_l4.specs.State.{fragments_of_all}
 use Rattle.circuit_l4.specs.Queued.{Lengths, cut}
 
@@ -58,15 +57,6 @@ fragment_is bytes text more start len nth before rest many fits h b r m t e =
     let long : length (take rest (drop (start + before) bytes)) ≡ rest =
     length-take-le rest (drop (start + before) bytes) (rw (length-drop (start + before) bytes) (omega (arith, fits, whole, b))) in
     rw (behind, long, t, e, m) (ap (λ l. (l, nat_lt 236 rest)) (sym (take_less 236 rest (drop (start + before) bytes))))
-
-counted : (message : List ℕ) → length (fragments_of message) ≡ fragments_in (length message)
-counted message = length-map-range_with_len (fragment_at message) 0 (fragments_in (length message))
-
-found : (message : List ℕ) (n : ℕ) → n < fragments_in (length message) → slice_get (fragments_of message) n ≡ Some (fragment_at message n)
-found message n h =
-    let d : Fragment = fragment_at message n in
-    slice_get-get_or (fragments_of message) n d (rw (counted message) h)
-    ∙ ap Some (get_or-map-range_with_len (fragment_at message) 0 (fragments_in (length message)) n n d h (omega arith))
 
 get-before : (fs gs : List Fragment) (n : ℕ) → n < length fs → slice_get (fs ++ gs) n ≡ slice_get fs n
 get-before [] gs n h = absurd (omega (arith, h))

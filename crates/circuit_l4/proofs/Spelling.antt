@@ -5,6 +5,7 @@ use Rattle.std.proofs.lemmas.Bool.Decides.{nat_tests}
 use Rattle.std.proofs.lemmas.List.{take_at, take_all, drop_at, length-append, length-map, length-replicate}
 use Rattle.ax_address.specs.Callsign.{Callsign, IsCallsign, name_in, padded}
 use Rattle.ax_address.specs.Octets.{SpellsNetCall, SpelledNetCallIsRead, WrittenNetCallSpellsIt, net_call_octets}
+use Rattle.ax_address.proofs.NetCallLaws.{call_len}
 use Rattle.circuit_l4.specs.declared.pair.Pair.{Pair}
 use Rattle.circuit_l4.specs.declared.transport.Flags.{Flags}
 use Rattle.circuit_l4.specs.declared.transport.Transport.{Transport}
@@ -74,10 +75,6 @@ doubled_six c h =
     let name = name_in c.letters in
     let six : length (padded name) ≡ 6 = omega (arith, length-append name (replicate (6 - length name) 32), length-replicate {A = ℕ} (6 - length name) 32, h.six) in
     length-map c.letters (λ b. 2 * b) ∙ (ap length h.spaces ∙ six)
-
--- a call is written in seven octets
-seven : (c : Callsign) → IsCallsign c.letters c.ssid → length (net_call_octets c) ≡ 7
-seven c h = omega (arith, length-append (map (λ b. 2 * b) c.letters) ((96 + 2 * c.ssid) ∷ []), doubled_six c h)
 
 -- two calls of seven octets, one after the other
 module _ (a b : List ℕ) (seven_a : length a ≡ 7) (seven_b : length b ≡ 7) where
@@ -149,8 +146,8 @@ pub written_spells : WrittenNetCallSpellsIt → WrittenTransportSpellsIt
 written_spells written (Request pair window user node) h =
     let u = net_call_octets user in
     let n = net_call_octets node in
-    let su = seven user h.0 in
-    let sn = seven node h.1 in
+    let su = call_len user h.0 in
+    let sn = call_len node h.1 in
     let size = both u n su sn in (
       begins 1 1 0 0 pair (window ∷ u ++ n) refl (omega (arith, size)),
       record {

@@ -1,4 +1,4 @@
-//! How an end of a circuit begins.
+//! How an end of a circuit begins. Used by `calls` and `end`.
 use crate::pair::Pair;
 use crate::phase::EndPhase;
 use crate::role::Role;

@@ -1,4 +1,4 @@
-//! The settings of an end of a circuit.
+//! The settings of an end of a circuit. Used by `calls`, `end` and `machine`, and by `circuit_table`, `node_core` and `node_settings`.
 
 /// The settings of an end of a circuit. A time is in milliseconds, and at most 2^62 of them.
 #[derive(Clone, Copy, Debug, PartialEq, Eq)]

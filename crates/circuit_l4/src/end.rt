@@ -1,4 +1,4 @@
-//! One end of a circuit: its public calls.
+//! One end of a circuit: its public calls. Called by `circuit_table` and the replay.
 ghost use Rattle.std.specs.Prelude.{◌≡◌, ◌↔◌, ◌≤◌, ◌+◌, ◌*◌, ◌^◌, min, drop, slice_get, nat_lt, length, None, IfOk, OnOk, OnErr, IsOk, IsTrue};
 ghost use Rattle.circuit_l4.specs.State.{State, inbox};
 ghost use Rattle.circuit_l4.specs.Table as table;

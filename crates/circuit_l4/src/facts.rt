@@ -1,4 +1,4 @@
-//! What an end tells of itself.
+//! What an end tells of itself. Used by `end`, and by `circuit_table`, `node_core` and crates above.
 use crate::phase::EndPhase;
 
 /// What an end tells of itself.

@@ -1,4 +1,4 @@
-//! An information message as it comes (NET/ROM, Appendix B, level 4).
+//! An information message as it comes (NET/ROM, Appendix B, level 4). Used by `arrivals` and `texts`.
 use crate::piece::Piece;
 use crate::transport::Flags;
 

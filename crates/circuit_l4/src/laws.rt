@@ -1,4 +1,4 @@
-//! What the definitions promise by themselves.
+//! Laws of the definitions of transports and of an end alone. Called by `read` and `write`, and by the laws of `circuit_set`.
 ghost use Rattle.std.specs.Prelude.{◌≡◌};
 ghost use Rattle.circuit_l4.specs.Faults.{FaultIsFirst};
 ghost use Rattle.circuit_l4.specs.Laws as end_law;

@@ -1,4 +1,4 @@
-//! What an end keeps above its two halves.
+//! What an end keeps above its two halves. Called by most files here.
 ghost use Rattle.std.specs.Prelude.{◌≡◌, ◌+◌, ◌-◌, ◌*◌, ◌≤◌, ◌<◌, length, drop, slice_get, None, Some};
 ghost use Rattle.radio_base.specs.declared.modulus.TheConstants.{COUNT_MAX};
 ghost use Rattle.circuit_l4.specs.State.{bytes_of};

@@ -1,4 +1,4 @@
-//! What an end tells of what has become of its circuit.
+//! What an end tells of what has become of its circuit. Used by most files here, and by `circuit_table`, `node_core` and crates above.
 
 /// What has become of a circuit.
 #[derive(Clone, Copy, Debug, PartialEq, Eq)]

@@ -1,4 +1,4 @@
-//! The sending half of an end: what was written and isn't wholly acknowledged.
+//! The sending half of an end: what was written and isn't wholly acknowledged. Called by `calls`, `machine` and `output`.
 ghost use Rattle.std.specs.Prelude.{◌≡◌, ◌+◌, ◌-◌, ◌≤◌, ◌<◌, ◌++◌, ◌∷◌, [], length, IfOk};
 ghost use Rattle.radio_base.specs.declared.modulus.TheConstants.{COUNT_MAX};
 ghost use Rattle.circuit_reassembly.specs.Fragments.{fragments_of};
@@ -155,7 +155,8 @@ fn forget(queue: &mut Messages, done: &mut u64)
     while forget_first(queue, done) {}
 }
 
-/// Of so many fragments acknowledged, forgets the first message where all of its own are. Answers whether it did.
+/// Forgets the first message where its fragments are all among the `done` that are acknowledged, and takes these off `done`. Answers
+/// whether it did.
 fn forget_first(queue: &mut Messages, done: &mut u64) -> bool
     ensures forgets { ForgetsFirst result queue.old.messages done.old queue.new.messages done.new }
     ensures room { queue.new.room ≡ queue.old.room }

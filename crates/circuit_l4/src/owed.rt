@@ -1,4 +1,4 @@
-//! What an end owes the other one.
+//! What an end owes the other one. Used by `texts`.
 
 /// What has to be put out once more: so many fragments from a number on.
 #[derive(Clone, Copy, Debug, PartialEq, Eq)]

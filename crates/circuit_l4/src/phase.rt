@@ -1,4 +1,4 @@
-//! Where an end of a circuit stands.
+//! Where an end of a circuit stands. Used by most files here, and by `circuit_table`, `node_core` and the replay.
 
 /// Where an end of a circuit stands.
 ///

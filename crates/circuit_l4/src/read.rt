@@ -1,4 +1,4 @@
-//! Octets become transports (NET/ROM, Appendix B, level 4).
+//! Octets become transports (NET/ROM, Appendix B, level 4). Called by `circuit_table` and `frame_lines`.
 ghost use Rattle.std.specs.Prelude.{◌≡◌, ◌+◌, ◌<◌, ◌≤◌, Ok, length, take, drop, IfOk, IsOk, false};
 ghost use Rattle.ax_address.specs.Octets.{SpellsNetCall};
 ghost use Rattle.circuit_l4.specs.Transports as octet;

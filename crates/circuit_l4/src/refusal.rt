@@ -1,4 +1,4 @@
-//! Why an end doesn't accept a message.
+//! Why an end doesn't accept a message. Used by `calls` and `end`, and by `circuit_table`, `node_core` and the replay.
 
 /// Why a message isn't accepted.
 #[derive(Clone, Copy, Debug, PartialEq, Eq)]

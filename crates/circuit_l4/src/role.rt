@@ -1,4 +1,4 @@
-//! Which end of a circuit an end is.
+//! Which end of a circuit an end is. Used by `beginning`, `end`, `expiry` and `machine`.
 use ax_address::Call;
 
 /// Which end of a circuit it is.

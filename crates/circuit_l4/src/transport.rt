@@ -1,4 +1,5 @@
-//! What the ends of a circuit say to each other (NET/ROM, Appendix B, level 4).
+//! What the ends of a circuit say to each other (NET/ROM, Appendix B, level 4). Used by most files here, and by `circuit_table` and
+//! `frame_lines`.
 use crate::pair::Pair;
 use arrayvec::ArrayVec;
 use ax_address::Call;

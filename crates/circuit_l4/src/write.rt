@@ -1,4 +1,4 @@
-//! Transports become octets (NET/ROM, Appendix B, level 4).
+//! Transports become octets (NET/ROM, Appendix B, level 4). Called by `circuit_table`.
 ghost use Rattle.std.specs.Prelude.{◌≡◌, ◌+◌, ◌≤◌};
 ghost use Rattle.ax_address.specs.Callsign.{IsCallsign};
 ghost use Rattle.circuit_l4.specs.Transports as octet;

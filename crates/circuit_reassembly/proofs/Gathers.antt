@@ -21,10 +21,10 @@ some_left : (f : Fragment) (rest : List Fragment) (message : List ℕ) → Carry
 some_left f [] message c = rw (c.0) (c.1)
 some_left f (next ∷ rest) message c = let e = c.2.1 in rw (e, length-append) (omega (arith, c.0))
 
-last_step : (held piece : List ℕ) (more : Bool) → nat_lt 8192 (length (held ++ piece)) ≡ false → more ≡ false → gather_step held piece more ≡ ([], Whole (held ++ piece))
+pub last_step : (held piece : List ℕ) (more : Bool) → nat_lt 8192 (length (held ++ piece)) ≡ false → more ≡ false → gather_step held piece more ≡ ([], Whole (held ++ piece))
 last_step held piece more room e = rw (room, e) refl
 
-next_step : (held piece : List ℕ) (more : Bool) → nat_lt 8192 (length (held ++ piece)) ≡ false → more ≡ true → gather_step held piece more ≡ (held ++ piece, More)
+pub next_step : (held piece : List ℕ) (more : Bool) → nat_lt 8192 (length (held ++ piece)) ≡ false → more ≡ true → gather_step held piece more ≡ (held ++ piece, More)
 next_step held piece more room e = rw (room, e) refl
 
 gathers_last : (held : List ℕ) (f : Fragment) (message : List ℕ) → Carry (f ∷ []) message → length (held ++ message) ≤ 8192 → Gathers held (f ∷ []) (held ++ message)

@@ -1,4 +1,4 @@
-//! Messages are cut into fragments.
+//! Messages are cut into fragments. Called by `circuit_l4`.
 ghost use Rattle.std.specs.Prelude.{◌≡◌, ◌<◌, ◌≤◌, ℕ, List, length, slice_get, IfSome, MatchOption, Some, None};
 ghost use Rattle.circuit_reassembly.specs.Fragments.{fragments_of, fragment_at, fragments_in};
 

@@ -1,4 +1,4 @@
-//! Fragments are gathered to messages.
+//! Fragments are gathered to messages. Called by `circuit_l4`.
 ghost use Rattle.std.specs.Prelude.{◌≡◌, ◌≤◌, [], length, IfOk};
 ghost use Rattle.circuit_reassembly.specs.Fragments.{gather_step};
 ghost use Rattle.circuit_reassembly.specs.Answering.{StepsOn, answer_of};

@@ -1,4 +1,4 @@
-//! What the definitions promise by themselves.
+//! Laws of the definitions of fragments alone. No code calls them.
 
 ghost use Rattle.std.specs.Prelude.{◌≡◌};
 ghost use Rattle.circuit_reassembly.specs.Laws.{FragmentsMakeTheMessage, GathersTheMessage};

@@ -2,6 +2,8 @@
 use Rattle.std.specs.Prelude.{◌≡◌, ℕ, zero, suc, ◌+◌, ◌-◌, ◌*◌, ◌≤◌, ◌<◌, ◌⊎◌, min, Bool, true, false, ◌&&◌, ◌||◌, nat_eq, if◌then◌else◌, List, [], ◌∷◌, ◌++◌, drop, slice_get, slice_set, Option, Some, None, Ok, refl}
 use Rattle.std.proofs.Common.{sym, ◌∙◌, ap, subst, inl, inr, arith, append-nil}
 use Rattle.std.proofs.lemmas.Bool.Decides.{nat_tests}
+use Rattle.std.proofs.lemmas.Bool.{and_parts}
+use Rattle.std.proofs.Math.Bool.{or-true}
 use Rattle.radio_base.specs.declared.modulus.TheConstants.{COUNT_MAX}
 use Rattle.circuit_l4.specs.declared.transport.Transport.{Transport}
 use Rattle.circuit_l4.specs.declared.transport.Transport.TheVariants.{Request, Accept, Refuse, Disconnect, Disconnected, Info, InfoAck}
@@ -145,25 +147,16 @@ hear_elem_case : (n i : ℕ) (hs : List ℕ) (b : Bool) → Elem i (if b then hs
 hear_elem_case n i hs true h = inr h
 hear_elem_case n i hs false h = h
 
-both_true : (a b : Bool) → (a && b) ≡ true → (a ≡ true) × (b ≡ true)
-both_true true true e = (refl, refl)
-both_true true false e = cc
-both_true false b e = cc
-
-pub or_true : (a : Bool) → (a || true) ≡ true
-or_true true = refl
-or_true false = refl
-
 latest_case : (s m : SentNote) (ss : List SentNote) (y : Name) (d : List ℕ) (n : ℕ) (b : Bool) → (same_name s.who y && is_copy d s.datagram) ≡ b → (if b then Some s else latest_in ss y d) ≡ Some m → m.number ≡ Some n
     → (latest_in ss y d ≡ Some m → has y n ss ≡ true) → has y n (s ∷ ss) ≡ true
 latest_case s m ss y d n true t e q later =
     let same : s ≡ m = cc in
     let number : s.number ≡ Some n = ap (λ (k : SentNote). k.number) same ∙ q in
-    let who : same_name s.who y ≡ true = (both_true (same_name s.who y) (is_copy d s.datagram) t).0 in
+    let who : same_name s.who y ≡ true = (and_parts (same_name s.who y) (is_copy d s.datagram) t).0 in
     let test : nat_eq n n ≡ true = grind (arith, nat_tests) in
     let head : (same_name s.who y && is_number s.number n) ≡ true = ap (λ b. b && is_number s.number n) who ∙ ap (λ o. is_number o n) number ∙ test in
     ap (λ b. b || has y n ss) head
-latest_case s m ss y d n false t e q later = ap (λ b. (same_name s.who y && is_number s.number n) || b) (later e) ∙ or_true (same_name s.who y && is_number s.number n)
+latest_case s m ss y d n false t e q later = ap (λ b. (same_name s.who y && is_number s.number n) || b) (later e) ∙ or-true (same_name s.who y && is_number s.number n)
 
 latest_has : (ss : List SentNote) (y : Name) (d : List ℕ) (m : SentNote) (n : ℕ) → latest_in ss y d ≡ Some m → m.number ≡ Some n → has y n ss ≡ true
 latest_has [] y d m n e q = cc

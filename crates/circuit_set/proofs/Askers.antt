@@ -3,7 +3,10 @@ use Rattle.std.specs.Prelude.{◌≡◌, ◌≢◌, ℕ, zero, suc, ◌⊎◌, B
 use Rattle.std.specs.List.{AllByRecursion}
 use Rattle.std.proofs.Common.{sym, ◌∙◌, ap, subst, inl, inr, arith}
 use Rattle.std.proofs.lemmas.Bool.Decides.{nat_tests}
+use Rattle.std.proofs.lemmas.Bool.{and_parts}
+use Rattle.radio_base.proofs.Each.{each_map}
 use Rattle.ax_address.specs.Callsign.{Callsign, same_call}
+use Rattle.ax_address.proofs.SameCalls.{same_call-true, call_refl}
 use Rattle.l3_datagram.specs.declared.datagram.DatagramHead.{DatagramHead}
 use Rattle.circuit_l4.specs.declared.pair.Pair.{Pair}
 use Rattle.circuit_l4.specs.declared.notice.EndNotice.{EndNotice}
@@ -16,7 +19,6 @@ use Rattle.circuit_table.specs.Runs.{end_in}
 use Rattle.circuit_table.specs.Sets.{Act, Holder, SetState, asked_with, end_of, first_open, has_ended, is_open, opened_by, same_pair}
 use Rattle.circuit_set.proofs.Bridge.{name_itself, same_names}
 use Rattle.circuit_set.proofs.Cases.{Opener}
-use Rattle.circuit_set.proofs.Copies.{same_calls}
 use Rattle.circuit_set.proofs.Ended.{lived_says}
 use Rattle.circuit_set.proofs.Fair.{InMade, NoteOf, in_contains, note_of_name}
 use Rattle.circuit_set.proofs.Invariant.{Lived}
@@ -24,11 +26,10 @@ use Rattle.circuit_set.proofs.Knowing.{Asker, Known, MadeOk, Opened, asker_of, s
 use Rattle.circuit_set.proofs.Lookups.{InEnds}
 use Rattle.circuit_set.proofs.Leaving.{GoneEnded}
 use Rattle.circuit_table.proofs.Making.{same_pairs}
-use Rattle.circuit_set.proofs.NewName.{call_itself}
 use Rattle.circuit_set.proofs.Partners.{Partner, of_made, partner_of}
 use Rattle.circuit_set.proofs.Retries.{AllLive}
 use Rattle.circuit_set.proofs.Stepped.{same_holder}
-use Rattle.circuit_set.proofs.Unrepeated.{FarFrom, Unrepeated, each}
+use Rattle.circuit_set.proofs.Unrepeated.{FarFrom, Unrepeated}
 
 -- ---- lookups ----
 is_case : (id : ℕ) (h x : Holder) (hs : List Holder) (b : Bool) → (if b then Some x else end_of id hs) ≡ Some h → (end_of id hs ≡ Some h → InEnds h hs) → InEnds h (x ∷ hs)
@@ -72,16 +73,11 @@ told_is : (ms : List MadeNote) (m : MadeNote) → InMade m ms → Unrepeated ms 
 told_is [] m i u a = absurd i
 told_is (q ∷ ms) m i u a = told_case q m ms (same_name q.who m.who) refl i u a.0 (λ j. told_is ms m j u.1 a.1)
 
-both_true : (a b : Bool) → (a && b) ≡ true → (a ≡ true) × (b ≡ true)
-both_true true true e = (refl, refl)
-both_true true false e = cc
-both_true false b e = cc
-
-pair_itself : (p : Pair) → same_pair p p ≡ true
+pub pair_itself : (p : Pair) → same_pair p p ≡ true
 pair_itself p = let a : nat_eq p.index p.index ≡ true = grind (arith, nat_tests) in let b : nat_eq p.ident p.ident ≡ true = grind (arith, nat_tests) in rw (a, b) refl
 
 matches_itself : (c d : Callsign) (p q : Pair) → c ≡ d → p ≡ q → (same_call c d && same_pair p q) ≡ true
-matches_itself c d p q e f = ap (λ k. same_call c k && same_pair p q) (sym e) ∙ ap (λ k. same_call c c && same_pair p k) (sym f) ∙ ap (λ b. b && same_pair p p) (call_itself c) ∙ pair_itself p
+matches_itself c d p q e f = ap (λ k. same_call c k && same_pair p q) (sym e) ∙ ap (λ k. same_call c c && same_pair p k) (sym f) ∙ ap (λ b. b && same_pair p p) (call_refl c) ∙ pair_itself p
 
 -- all notes of this call are of one node
 abbrev Near : Callsign → ℕ → List MadeNote → Type 0
@@ -91,8 +87,8 @@ last_case : (own : Callsign) (pair : Pair) (m q : MadeNote) (ms : List MadeNote)
     → (q.own ≡ own → q.who.node ≡ m.who.node) → Unrepeated (q ∷ ms) → (InMade m ms → made_last ms own pair ≡ Some m.who) → (if b then Some q.who else made_last ms own pair) ≡ Some m.who
 last_case own pair m q ms true t (inl e) c p near u later = ap (λ (k : MadeNote). Some k.who) (sym e)
 last_case own pair m q ms true t (inr i) c p near u later =
-    let two = both_true (same_call q.own own) (same_pair q.pair pair) t in
-    let node : q.who.node ≡ m.who.node = near (same_calls q.own own two.0) in
+    let two = and_parts (same_call q.own own) (same_pair q.pair pair) t in
+    let node : q.who.node ≡ m.who.node = near (same_call-true q.own own two.0) in
     absurd (of_made (λ (k : MadeNote). k.who.node ≡ q.who.node → k.pair ≢ q.pair) ms m u.0 i (sym node) (p ∙ sym (same_pairs q.pair pair two.1)))
 last_case own pair m q ms false t (inl e) c p near u later =
     let yes : (same_call m.own own && same_pair m.pair pair) ≡ true = matches_itself m.own own m.pair pair c p in
@@ -131,7 +127,7 @@ module _ (net : Net) (k : Known net) (left : GoneEnded net) (live : AllLive net)
   -- notes of one name are of one end
   same_end : (m : MadeNote) → MadeOk net m → AllByRecursion (λ (q : MadeNote). q.who ≡ m.who → q.pair ≡ m.pair) net.book.made
   same_end m o =
-      each (MadeOk net) (λ (q : MadeNote). q.who ≡ m.who → q.pair ≡ m.pair)
+      each_map (MadeOk net) (λ (q : MadeNote). q.who ≡ m.who → q.pair ≡ m.pair)
       (λ q p e.
       let is : p.note.end ≡ o.note.end = same_holder p.note.end o.note.end (end_at net m.who) (subst (λ w. end_at net w ≡ Some p.note.end) e p.note.there) o.note.there in
       sym p.note.pair ∙ ap (λ (h : Holder). h.end.pair) is ∙ o.note.pair) net.book.made k.made
@@ -169,7 +165,7 @@ module _ (net : Net) (k : Known net) (left : GoneEnded net) (live : AllLive net)
     last : made_last net.book.made head.origin p ≡ Some x
     last =
         last_is head.origin p m net.book.made note.inside own_is (sym ok.note.pair ∙ ap (λ (h : Holder). h.end.pair) is_end ∙ asker.pair_is)
-        (each (MadeOk net) (λ (q : MadeNote). q.own ≡ head.origin → q.who.node ≡ m.who.node) nodes_are net.book.made k.made) once ∙ ap (λ w. Some w) note.who
+        (each_map (MadeOk net) (λ (q : MadeNote). q.own ≡ head.origin → q.who.node ≡ m.who.node) nodes_are net.book.made k.made) once ∙ ap (λ w. Some w) note.who
 
     requester_is : requester net.book (Some d) ≡ (if has_sent net.book.sent x d && is_unknown (partner net.book x) then Some x else None)
     requester_is = ap (asked_by net.book d) o.comer.read ∙ ap (λ q. if_asked net.book d (made_last net.book.made head.origin q)) asker.first ∙ ap (λ w. if_asked net.book d w) last
@@ -188,7 +184,7 @@ module _ (net : Net) (k : Known net) (left : GoneEnded net) (live : AllLive net)
         let r : MadeOk net q = note_at q i in
         let w : Opened net q x = r.opened x met in
         let is : w.asker ≡ asker.end = same_holder w.asker asker.end (end_at net x) w.there asker.there in
-        let own : s.own ≡ w.to.0.own = sym (same_calls head.dest s.own o.comer.mine) ∙ sym asker.to ∙ ap (λ (h : Holder). h.at) (sym is) ∙ sym w.to.2 in
+        let own : s.own ≡ w.to.0.own = sym (same_call-true head.dest s.own o.comer.mine) ∙ sym asker.to ∙ ap (λ (h : Holder). h.at) (sym is) ∙ sym w.to.2 in
         let node : q.who.node ≡ n = sym (k.calls n q.who.node s w.to.0 here w.to.1 own) in
         let there : end_of q.who.id s.ends ≡ Some w.end = sym (ap (λ o. end_in o q.who.id) (ap (λ i. slice_get net.sets i) node ∙ here)) ∙ w.here in
         let two : Some w.from.0 ≡ Some asker.own.0 = sym w.from.1 ∙ asker.own.1 in
@@ -196,7 +192,7 @@ module _ (net : Net) (k : Known net) (left : GoneEnded net) (live : AllLive net)
         let from : w.end.at ≡ head.origin = sym w.from.2 ∙ ap (λ (u : SetState). u.own) same_set ∙ asker.own.2 in
         let pair : w.end.asked ≡ Some p = w.pair ∙ ap (λ (h : Holder). Some h.end.pair) is ∙ ap (λ r. Some r) asker.pair_is in
         let fits : opened_by head.origin p w.end ≡ true =
-        ap (λ o. asked_with o p && same_call w.end.at head.origin) pair ∙ ap (λ b. b && same_call w.end.at head.origin) (pair_itself p) ∙ ap (λ c. same_call w.end.at c) (sym from) ∙ call_itself w.end.at in
+        ap (λ o. asked_with o p && same_call w.end.at head.origin) pair ∙ ap (λ b. b && same_call w.end.at head.origin) (pair_itself p) ∙ ap (λ c. same_call w.end.at c) (sym from) ∙ call_refl w.end.at in
         let shut : is_open w.end ≡ false = and_false (is_open w.end) (opened_by head.origin p w.end) (none_open (opened_by head.origin p) w.end s.ends o.none (is_in q.who.id w.end s.ends there)) fits in
         let ended : has_ended w.end.end.phase ≡ true = shut_ended w.end.gone (has_ended w.end.end.phase) shut (left q.who w.end w.here) in
         record {

@@ -1,6 +1,7 @@
 -- What comes too late by the book comes too late by the events, and the other way round.
 use Rattle.std.specs.Prelude.{◌≡◌, ℕ, suc, ◌+◌, ◌-◌, ◌*◌, ◌<◌, Bool, true, false, if◌then◌else◌, List, [], ◌∷◌, ◌++◌, length, Contains, Option, Some, None, refl}
 use Rattle.std.proofs.Common.{sym, ◌∙◌, ap, subst, inl, inr, arith, append_assoc, length-append}
+use Rattle.std.proofs.lemmas.Bool.{both_ways, false_from_ne_true}
 use Rattle.circuit_l4.specs.declared.pair.Pair.{Pair}
 use Rattle.circuit_set.specs.Books.{Book, Fresh, FreshTold, HasRequester, MadeNote, NoOther, SentNote, Timely, TimelyTo, TimelyTold, any_ends, empty, is_lost, is_unknown, latest_in, overtakers, partner_in, was_asked, lost_in}
 use Rattle.circuit_table.specs.Events.{Event, Name}
@@ -10,7 +11,7 @@ use Rattle.circuit_table.specs.Sets.{CircuitTold, Made, Sent, Heeded, Notice, Go
 use Rattle.circuit_set.specs.TooLate.{Allowing, AllowsByWindow, Gives, InTime, IsFresh, IsNew, IsOpen, IsTimely, OpenedWith, Tells, allows_fixed}
 use Rattle.circuit_set.proofs.Among.{by_snoc, none_split, snoc_split}
 use Rattle.circuit_set.proofs.Joined.{asked_marks, asks, has_none, is_free, partner_looks, requested, requests, unknown_none}
-use Rattle.circuit_set.proofs.Noted.{book, finds, found, fresh_less, fresh_one, marked, marks, not_both, not_true, timely_less, timely_one}
+use Rattle.circuit_set.proofs.Noted.{book, finds, found, fresh_less, fresh_one, marked, marks, timely_less, timely_one}
 use Rattle.circuit_set.proofs.Notes.{MadeAt, NoteNow, contained, in_notes, made_at, note_now}
 use Rattle.circuit_set.proofs.Opened.{end_told, opened_with, opens_with, told_end}
 use Rattle.circuit_set.proofs.Overtakers.{as_many, at_most}
@@ -36,8 +37,8 @@ module _ (es : List Event) (fresh : Fresh empty es) (node : ℕ) (pair : Pair) w
         note = n.note;
         inside = contained n.note (book es).made n.inside;
         who = n.who;
-        lasts = ap any_ends n.told ∙ not_true (any_ends (notices_in z o.made.after)) (λ t. o.lasts (told_end z o.made.after t));
-        kept = ap (is_lost (lost_in [] es)) n.who ∙ not_true (is_lost (lost_in [] es) z) (λ t. o.kept (marks (loss_marks z) es fresh t));
+        lasts = ap any_ends n.told ∙ false_from_ne_true (any_ends (notices_in z o.made.after)) (λ t. o.lasts (told_end z o.made.after t));
+        kept = ap (is_lost (lost_in [] es)) n.who ∙ false_from_ne_true (is_lost (lost_in [] es) z) (λ t. o.kept (marks (loss_marks z) es fresh t));
       }
 
   pub open_end : (m : MadeNote) → Contains (book es).made m → any_ends m.told ≡ false → is_lost (lost_in [] es) m.who ≡ false → IsOpen es m.who
@@ -45,8 +46,8 @@ module _ (es : List Event) (fresh : Fresh empty es) (node : ℕ) (pair : Pair) w
       let a : MadeAt es m = made_at es m (in_notes m (book es).made c) in
       record {
         made = record { before = a.before; at = a.at; after = a.after; parts = a.parts; is = (a.request, a.made) };
-        lasts = λ h. not_both (any_ends m.told) lasts (ap any_ends a.told ∙ end_told m.who a.after h);
-        kept = λ h. not_both (is_lost (lost_in [] es) m.who) kept (marked (loss_marks m.who) es fresh h);
+        lasts = λ h. both_ways (any_ends m.told) lasts (ap any_ends a.told ∙ end_told m.who a.after h);
+        kept = λ h. both_ways (is_lost (lost_in [] es) m.who) kept (marked (loss_marks m.who) es fresh h);
       }
 
   is_new : (request : Option (List ℕ)) → HasRequester (book es) request → NoOther (book es) (lost_in [] es) node pair → IsNew es node pair request
@@ -218,12 +219,12 @@ module _ (es : List Event) (fresh : Fresh empty es) (x y : Name) (joined : partn
       (256 - 2 * w.0, record { opened = x; which = inl (marks (asked_marks x) es fresh h, refl); window = w.0; told = opened_with x es fresh w.0 w.1; is = refl }, w.2)
   allows_case false h l =
       let w = window_case k (opened_window (told_to (book es).made y)) (subst (λ n. k < n) (by_partner h) l) in
-      (256 - 2 * w.0, record { opened = y; which = inr ((λ p. not_both (was_asked (book es).made x) h (marked (asked_marks x) es fresh p)), refl); window = w.0; told = opened_with y es fresh w.0 w.1; is = refl }, w.2)
+      (256 - 2 * w.0, record { opened = y; which = inr ((λ p. both_ways (was_asked (book es).made x) h (marked (asked_marks x) es fresh p)), refl); window = w.0; told = opened_with y es fresh w.0 w.1; is = refl }, w.2)
 
   allowed_is : (n : ℕ) → AllowsByWindow es x y n → allowance_at (book es) x ≡ n
   allowed_is n a = elim a.which [
     | inl p ↦ by_itself (marked (asked_marks x) es fresh p.0) ∙ (ap allowance (opens_with x es fresh a.window (subst (λ z. OpenedWith es z a.window) p.1 a.told)) ∙ sym a.is)
-    | inr p ↦ by_partner (not_true (was_asked (book es).made x) (λ h. p.0 (marks (asked_marks x) es fresh h)))
+    | inr p ↦ by_partner (false_from_ne_true (was_asked (book es).made x) (λ h. p.0 (marks (asked_marks x) es fresh h)))
         ∙ (ap allowance (opens_with y es fresh a.window (subst (λ z. OpenedWith es z a.window) p.1 a.told)) ∙ sym a.is)
   ]
 

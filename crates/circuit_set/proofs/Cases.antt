@@ -2,8 +2,10 @@
 use Rattle.std.specs.Prelude.{◌≡◌, ℕ, ◌⊎◌, Bool, true, false, not, ◌&&◌, ◌||◌, nat_eq, min, if◌then◌else◌, List, [], ◌∷◌, ◌++◌, drop, Option, Some, None, Result, Ok, Err, refl}
 use Rattle.std.proofs.Common.{sym, ◌∙◌, ap, subst, inl, inr, arith}
 use Rattle.std.proofs.lemmas.Bool.Decides.{nat_tests}
+use Rattle.std.proofs.lemmas.Bool.{and_parts, not-true, not-false}
 use Rattle.radio_base.specs.declared.modulus.TheConstants.{COUNT_MAX}
 use Rattle.ax_address.specs.Callsign.{Callsign, IsCallsign, same_call}
+use Rattle.ax_address.proofs.SameNumbers.{nat_refl, nat_apart}
 use Rattle.l3_datagram.specs.declared.datagram.DatagramHead.{DatagramHead}
 use Rattle.l3_datagram.specs.declared.datagram.DatagramRefusal.{DatagramRefusal}
 use Rattle.l3_datagram.specs.Datagrams.{head_at}
@@ -48,17 +50,11 @@ apart_in id h [] a i = absurd i
 apart_in id h (x ∷ xs) a (inl e) = subst (λ (k : Holder). nat_eq k.id id ≡ false) (sym e) a.0
 apart_in id h (x ∷ xs) a (inr i) = apart_in id h xs a.1 i
 
-turned : (m n : ℕ) → nat_eq m n ≡ false → nat_eq n m ≡ false
-turned m n e = grind (arith, nat_tests)
-
-itself : (n : ℕ) → nat_eq n n ≡ true
-itself n = grind (arith, nat_tests)
-
 -- an end of the set is found by its number
 pub found : (h : Holder) (hs : List Holder) → Once hs → InEnds h hs → end_of h.id hs ≡ Some h
 found h [] o i = absurd i
-found h (x ∷ xs) o (inl e) = subst (λ (k : Holder). end_of k.id (x ∷ xs) ≡ Some k) (sym e) (ap (λ b. if b then Some x else end_of x.id xs) (itself x.id))
-found h (x ∷ xs) o (inr i) = ap (λ b. if b then Some x else end_of h.id xs) (turned h.id x.id (apart_in x.id h xs o.0 i)) ∙ found h xs o.1 i
+found h (x ∷ xs) o (inl e) = subst (λ (k : Holder). end_of k.id (x ∷ xs) ≡ Some k) (sym e) (ap (λ b. if b then Some x else end_of x.id xs) (nat_refl x.id))
+found h (x ∷ xs) o (inr i) = ap (λ b. if b then Some x else end_of h.id xs) (nat_apart h.id x.id (apart_in x.id h xs o.0 i)) ∙ found h xs o.1 i
 
 number_case : (id : ℕ) (x h : Holder) (hs : List Holder) (b : Bool) → nat_eq x.id id ≡ b → (if b then Some x else end_of id hs) ≡ Some h → (end_of id hs ≡ Some h → h.id ≡ id) → h.id ≡ id
 number_case id x h hs true t e later = let same : x ≡ h = cc in let n : x.id ≡ id = grind (arith, nat_tests) in ap (λ (k : Holder). k.id) (sym same) ∙ n
@@ -197,19 +193,6 @@ either_done : (P : SetDone → Type 0) (b : Bool) (x y : SetDone) → P x → P 
 either_done P true x y p q = p
 either_done P false x y p q = q
 
-and_parts : (a b : Bool) → (a && b) ≡ true → (a ≡ true) × (b ≡ true)
-and_parts true true e = (refl, refl)
-and_parts true false e = cc
-and_parts false b e = cc
-
-is_false : (a : Bool) → not a ≡ true → a ≡ false
-is_false true e = cc
-is_false false e = refl
-
-is_true : (a : Bool) → not a ≡ false → a ≡ true
-is_true true e = refl
-is_true false e = cc
-
 module _ (s : SetState) (one : (h : Holder) → InEnds h s.ends → end_of h.id s.ends ≡ Some h) (a : Act) (P : SetDone → Type 0) (k : Every s a P) where
   -- ---- calls ----
   gone_one : (id : ℕ) (h j : Holder) → end_of id s.ends ≡ Some h → h.gone ≡ true → end_of id s.ends ≡ Some j → j.gone ≡ true
@@ -233,7 +216,7 @@ module _ (s : SetState) (one : (h : Holder) → InEnds h s.ends → end_of h.id 
   discard_case : (h : Holder) (b : Bool) → Idle s a → NoCall a → (not h.gone && has_ended h.end.phase) ≡ b → end_of h.id s.ends ≡ Some h
       → P (if b then record { set = record s { ends = with_end (record h { gone = true }) s.ends }; told = Gone h.id (facts_of h.end) ∷ [] } else does_nothing s)
   discard_case h false i none e there = k.rests i
-  discard_case h true i none e there = let r = and_parts (not h.gone) (has_ended h.end.phase) e in k.leaves h there (is_false h.gone r.0) r.1 none
+  discard_case h true i none e there = let r = and_parts (not h.gone) (has_ended h.end.phase) e in k.leaves h there (not-true h.gone r.0) r.1 none
 
   discard_so : (id : ℕ) (o : Option Holder) → Idle s a → NoCall a → end_of id s.ends ≡ o → P (after_discarding s o)
   discard_so id None i none e = k.rests i
@@ -244,7 +227,7 @@ module _ (s : SetState) (one : (h : Holder) → InEnds h s.ends → end_of h.id 
   open_one test h e =
       let f = open_found test h s.ends e in
       let lasts : is_open h ≡ true = (and_parts (is_open h) (test h) f.1).0 in
-      (one h f.0, is_false h.gone (and_parts (not h.gone) (not (has_ended h.end.phase)) lasts).0)
+      (one h f.0, not-true h.gone (and_parts (not h.gone) (not (has_ended h.end.phase)) lasts).0)
 
   module _ (d : List ℕ) (c : Comer s a d) where
     idle : Idle s a
@@ -305,7 +288,7 @@ module _ (s : SetState) (one : (h : Holder) → InEnds h s.ends → end_of h.id 
   handed_case d head now true w i e f g = k.rests (subst (Idle s) (sym i) tt)
   handed_case d head now false true i e f g = k.rests (subst (Idle s) (sym i) tt)
   handed_case d head now false false i e f g =
-      read_so d (record { now = now; came = i; head = head; read = e; other = f; mine = is_true (same_call head.dest s.own) g }) (transport_at (drop 15 d)) refl
+      read_so d (record { now = now; came = i; head = head; read = e; other = f; mine = not-false (same_call head.dest s.own) g }) (transport_at (drop 15 d)) refl
 
   handed_so : (d : List ℕ) (r : Result DatagramHead DatagramRefusal) (now : ℕ) → a ≡ Comes d now → head_at d ≡ r → P (after_datagram s d r now)
   handed_so d (Err e) now i h = k.rests (subst (Idle s) (sym i) tt)

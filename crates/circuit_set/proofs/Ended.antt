@@ -1,6 +1,7 @@
 -- What an end tells in a step: nothing, that its circuit is open, or how it ended; and then it has ended, and stays so.
 use Rattle.std.specs.Prelude.{◌≡◌, ℕ, ◌⊎◌, ◌∷◌, ◌+◌, min, Bool, true, false, not, ◌&&◌, ◌||◌, nat_eq, nat_lt, nat_le, if◌then◌else◌, List, [], ◌++◌, length, None, is_ok, refl}
 use Rattle.std.proofs.Common.{sym, ◌∙◌, ap, inl, inr}
+use Rattle.std.proofs.Math.Bool.{or-true}
 use Rattle.radio_base.specs.declared.modulus.TheConstants.{COUNT_MAX}
 use Rattle.circuit_l4.specs.declared.pair.Pair.{Pair}
 use Rattle.circuit_l4.specs.declared.transport.Flags.{Flags}
@@ -18,13 +19,15 @@ use Rattle.circuit_l4.specs.State.{Effect, State, begin, is_up, Appended, Receip
 use Rattle.circuit_l4.specs.Moves.{acknowledge, again, answer, answer_all, wait_if_out, on_state, begin_to_close, end_with, fill, finish, with_receiving, is_done, is_silent, note, on_info, on_info_ack, emit, emit_owed, supply, emit_ack}
 use Rattle.circuit_l4.specs.Laws.{Accepts, Asks, IsNew, after_inputs, followed_by}
 use Rattle.circuit_l4.specs.Table.{Input, Write, Arrive, Tick, Close, Take, arrive_in, ask_by, close_in_turn, due_in, expire, note_activity, is_due, may_close, unchoke, common_window, come_up, resume_by, retry, retry_in, step, step_at, take_from, write_answer, write}
+use Rattle.circuit_l4.proofs.Parts.{either_going}
+use Rattle.circuit_l4.proofs.Retries.{first_of}
 use Rattle.circuit_set.specs.Books.{any_ends}
 use Rattle.circuit_table.specs.Events.{ends_it}
 use Rattle.circuit_set.specs.NotedRuns.{opened_window}
 use Rattle.circuit_table.specs.Sets.{has_ended}
 use Rattle.circuit_table.proofs.Lasting.{Core, acknowledges, fills as fill_keeps, if_out}
 use Rattle.circuit_table.proofs.Names.{AcceptsNone, is_accept, step_same}
-use Rattle.circuit_table.proofs.Choices.{Named, either_going}
+use Rattle.circuit_table.proofs.Choices.{Named}
 
 -- it tells how its circuit ended
 record IsLast (g : Effect) : Type 0 where
@@ -67,10 +70,6 @@ acknowledges_phase s now rx flags = acknowledges phase_stays (λ c. refl) (λ c 
 fills : (s : State) (now : ℕ) (g : Effect) → Goes s g → Goes s (fill now g)
 fills s now g k = same_phase s g (fill now g) refl (fill_phase now g) k
 
-and_first : (a b c : Bool) → (a && b && c) ≡ true → a ≡ true
-and_first true b c e = refl
-and_first false b c e = cc
-
 up_is_open : (P : Type 0) (p : EndPhase) → is_up p ≡ true → has_ended p ≡ true → P
 up_is_open P Connecting e f = cc
 up_is_open P Up e f = cc
@@ -79,7 +78,7 @@ up_is_open P Ended e f = cc
 
 finish_case : (s : State) (now : ℕ) (g : Effect) (b : Bool) → is_done g.end ≡ b → Goes s g → Goes s (if b then begin_to_close now g else g)
 finish_case s now g true e k =
-    let up : is_up g.end.phase ≡ true = and_first (is_up g.end.phase) g.end.closing (nat_eq g.end.sending.acked (total g.end.sending)) e in
+    let up : is_up g.end.phase ≡ true = first_of (is_up g.end.phase) g.end.closing (nat_eq g.end.sending.acked (total g.end.sending)) e in
     let n : Effect = begin_to_close now g in
     record {
       told = elim k.told [ inl r ↦ inl (r.0, λ e. cc) | inr r ↦ up_is_open (((n.notes ≡ []) × (has_ended n.end.phase ≡ true → has_ended s.phase ≡ true)) ⊎ IsLast n) g.end.phase up r.over ];
@@ -277,10 +276,6 @@ pub any_append : (xs ys : List EndNotice) → any_ends (xs ++ ys) ≡ (any_ends 
 any_append [] ys = refl
 any_append (n ∷ xs) ys = ap (λ b. ends_it n || b) (any_append xs ys) ∙ or_assoc (ends_it n) (any_ends xs) (any_ends ys)
 
-or_true : (a : Bool) → (a || true) ≡ true
-or_true true = refl
-or_true false = refl
-
 -- where it has ended it was told how
 abbrev Says : Effect → Type 0
 Says g = has_ended g.end.phase ≡ true → any_ends g.notes ≡ true
@@ -291,7 +286,7 @@ inputs_say (i ∷ inputs) g k =
     let h : Effect = step g.end i.0 i.1 in
     let next : Says (followed_by g h) = λ e. any_append g.notes h.notes ∙ elim ((input_ends g.end i.0 i.1).says e) [
       | inl was ↦ ap (λ b. b || any_ends h.notes) (k was)
-      | inr now ↦ ap (λ b. any_ends g.notes || b) now ∙ or_true (any_ends g.notes)
+      | inr now ↦ ap (λ b. any_ends g.notes || b) now ∙ or-true (any_ends g.notes)
     ] in
     inputs_say inputs (followed_by g h) next
 

@@ -4,6 +4,7 @@ use Rattle.std.proofs.Common.{sym, ◌∙◌, ap, subst, inl, inr, arith}
 use Rattle.std.proofs.lemmas.Bool.Decides.{nat_tests}
 use Rattle.std.proofs.lemmas.List.{append-nil}
 use Rattle.ax_address.specs.Callsign.{Callsign}
+use Rattle.ax_address.proofs.SameNumbers.{nat_refl}
 use Rattle.circuit_l4.specs.declared.pair.Pair.{Pair}
 use Rattle.circuit_l4.specs.declared.transport.Transport.TheVariants.{Refuse}
 use Rattle.circuit_l4.specs.declared.config.EndConfig.{EndConfig}
@@ -86,9 +87,6 @@ far_tick n (ConnectFor user dest now) h g by z apart = absurd by
 far_tick n (Discard id) h g by z apart = absurd by
 far_tick n (Restart pair more) h g by z apart = absurd by
 
-itself : (n : ℕ) → nat_eq n n ≡ true
-itself n = grind (arith, nat_tests)
-
 -- an input of the end, or nothing of it
 pub record OneInput (h : Holder) (g : Effect) (tick : Option ℕ) : Type 0 where
   pub input : Input
@@ -98,8 +96,8 @@ pub record OneInput (h : Holder) (g : Effect) (tick : Option ℕ) : Type 0 where
 
 own_tick : (n : ℕ) (a : Act) (h : Holder) (g : Effect) → MovedBy a h g → (let t : Option ℕ = tick_at (record { node = n; act = a }) (record { node = n; id = h.id }) in OneInput h g t ⊎ ((t ≡ None) × (g.end ≡ h.end) × (g.notes ≡ [])))
 own_tick n (Calls called call now) h g by =
-    let same : nat_eq n n ≡ true = itself n in
-    let mine : nat_eq called h.id ≡ true = ap (λ i. nat_eq i h.id) by.0 ∙ itself h.id in
+    let same : nat_eq n n ≡ true = nat_refl n in
+    let mine : nat_eq called h.id ≡ true = ap (λ i. nat_eq i h.id) by.0 ∙ nat_refl h.id in
     let at : tick_at (record { node = n; act = Calls called call now }) (record { node = n; id = h.id }) ≡ tick_by call now = simp (same, mine) refl in
     inl (record { input = input_of call; now = now; is = by.1; at = at ∙ tick_by_is call now })
 own_tick n (Comes d now) h g (inl by) = inl (record { input = Arrive by.0; now = now; is = by.1; at = either_none (nat_eq n n) })

@@ -1,6 +1,7 @@
 -- What is kept of a fresh run, and how it is kept while no end is made.
 use Rattle.std.specs.Prelude.{◌≡◌, ◌≢◌, ℕ, suc, ◌<◌, ◌⊎◌, Bool, true, false, not, ◌&&◌, ◌||◌, if◌then◌else◌, List, [], ◌∷◌, ◌++◌, length, slice_get, Contains, Some, refl}
 use Rattle.std.proofs.Common.{sym, ◌∙◌, ap, subst, inl, inr, arith}
+use Rattle.std.proofs.lemmas.Bool.{and_parts, not-true}
 use Rattle.circuit_l4.specs.declared.notice.EndNotice.{EndNotice}
 use Rattle.circuit_table.specs.Pairs.{IsPair}
 use Rattle.circuit_table.specs.Sets.{Holder, SetState, has_ended, is_open}
@@ -147,18 +148,9 @@ pub back_false : (a b : Bool) → (a ≡ true → b ≡ true) → b ≡ false �
 back_false true b h e = let bad : true ≡ false = sym (h refl) ∙ e in cc
 back_false false b h e = refl
 
-both_true : (a b : Bool) → (a && b) ≡ true → (a ≡ true) × (b ≡ true)
-both_true true true e = (refl, refl)
-both_true true false e = cc
-both_true false b e = cc
-
-is_false : (a : Bool) → not a ≡ true → a ≡ false
-is_false true e = cc
-is_false false e = refl
-
 -- an open end is held, and hasn't ended
 pub open_parts : (h : Holder) → is_open h ≡ true → (h.gone ≡ false) × (has_ended h.end.phase ≡ false)
-open_parts h e = let r = both_true (not h.gone) (not (has_ended h.end.phase)) e in (is_false h.gone r.0, is_false (has_ended h.end.phase) r.1)
+open_parts h e = let r = and_parts (not h.gone) (not (has_ended h.end.phase)) e in (not-true h.gone r.0, not-true (has_ended h.end.phase) r.1)
 
 open_of : (h : Holder) → h.gone ≡ false → has_ended h.end.phase ≡ false → is_open h ≡ true
 open_of h e f = ap (λ b. not b && not (has_ended h.end.phase)) e ∙ ap (λ b. not b) f

@@ -1,6 +1,7 @@
 -- What a set heeds is from the partner of an end that it holds, and for that end.
 use Rattle.std.proofs.Common.{◌≡◌, ℕ, suc, refl, arith, subst, List, [], ◌∷◌, ◌++◌}
 use Rattle.std.specs.Prelude.{Contains, Bool, true, false, not, ◌&&◌, ◌||◌, if◌then◌else◌, drop, min, Option, Some, None, Result, Ok, Err}
+use Rattle.std.proofs.lemmas.Bool.{and_parts}
 use Rattle.radio_base.specs.declared.modulus.TheConstants.{COUNT_MAX}
 use Rattle.ax_address.specs.Callsign.{Callsign, same_call}
 use Rattle.l3_datagram.specs.declared.datagram.DatagramHead.{DatagramHead}
@@ -18,10 +19,6 @@ use Rattle.circuit_l4.specs.Table.{Arrive, step}
 use Rattle.circuit_table.specs.Sets.{heeds, Act, Call, Calls, Comes, Connect, ConnectFor, Discard, Restart, Gone, Heeded, Holder, Lost, Made, Notice, Restarted, Sent, SetDone, SetState, CircuitTold, accept_again, after_call, datagram_to, after_discarding, end_of, first_open, goes_to, hands_to, after_datagram, has_ended, holder_of, is_open, input_of, is_full, is_over, losses, makes_end, named_by, new_pair, notices, opened_by, read_as, after_transport, after_new_request, requests, requests_for, responds, sendings, told_by, does_nothing, with_end}
 use Rattle.circuit_set.specs.Heedings.{HeedsFor, SetsHeedPartners, pair_named}
 
-and_both : (a b : Bool) → (a && b) ≡ true → (a ≡ true) × (b ≡ true)
-and_both true b e = (refl, e)
-and_both false b e = absurd (cc e)
-
 -- an open end that is found is held, and as it was looked for
 open_is : (test : Holder → Bool) (hs : List Holder) (h : Holder) → first_open test hs ≡ Some h → Contains hs h × (test h ≡ true)
 open_is test [] h e = absurd (cc e)
@@ -30,7 +27,7 @@ open_is test (x ∷ hs) h e = by (is_open x && test x) refl e (open_is test hs h
     by : (b : Bool) → (is_open x && test x) ≡ b → (if b then Some x else first_open test hs) ≡ Some h → (first_open test hs ≡ Some h → Contains hs h × (test h ≡ true)) → Contains (x ∷ hs) h × (test h ≡ true)
     by true t q rest =
         let same : x ≡ h = cc q in
-        subst (λ (y : Holder). Contains (x ∷ hs) y × (test y ≡ true)) same ((0, omega arith, refl), (and_both (is_open x) (test x) t).1)
+        subst (λ (y : Holder). Contains (x ∷ hs) y × (test y ≡ true)) same ((0, omega arith, refl), (and_parts (is_open x) (test x) t).1)
     by false t q rest =
         let r = rest q in
         let low = r.0.1 in

@@ -1,6 +1,7 @@
 -- Who asks for a circuit, and whose partner an end is: by the book and by the events, where those are fresh.
 use Rattle.std.specs.Prelude.{◌≡◌, ℕ, ◌⊎◌, Bool, true, false, not, ◌&&◌, ◌||◌, if◌then◌else◌, List, [], ◌∷◌, drop, Option, Some, None, Result, Ok, Err, refl}
 use Rattle.std.proofs.Common.{sym, ◌∙◌, ap, subst, inl, inr}
+use Rattle.std.proofs.lemmas.Bool.{and_parts, and_from, or_left, both_ways}
 use Rattle.ax_address.specs.Callsign.{Callsign}
 use Rattle.l3_datagram.specs.declared.datagram.DatagramHead.{DatagramHead}
 use Rattle.l3_datagram.specs.declared.datagram.DatagramRefusal.{DatagramRefusal}
@@ -13,7 +14,7 @@ use Rattle.circuit_table.specs.Sets.{CircuitTold, Made, Sent, Heeded, Notice, Go
 use Rattle.circuit_set.specs.TooLate.{Asks, HasPartner, Joins, Makes, Opens}
 use Rattle.circuit_set.proofs.Bridge.{name_itself, same_names}
 use Rattle.circuit_set.proofs.Lookups.{same_asked, same_partner}
-use Rattle.circuit_set.proofs.Noted.{LooksUp, Marks, book, book_more, both_so, both_true, finds, found, fresh_less, marked, marks, name_true, named, names_so, none_found, not_both, or_none, or_so}
+use Rattle.circuit_set.proofs.Noted.{LooksUp, Marks, book, book_more, finds, found, fresh_less, marked, marks, name_true, named, names_so, none_found, or_none}
 use Rattle.circuit_set.proofs.Sought.{given_looks, sent_marks}
 
 -- ---- who asks ----
@@ -31,7 +32,7 @@ found_case : (es : List Event) (d : List ℕ) (head : DatagramHead) (x : Name) (
 found_case es d head x None e h = absurd (cc h)
 found_case es d head x (Some z) e h =
     let a = asks_if (has_sent (book es).sent z d && is_unknown (partner_in (book es).made z)) z x h in
-    let two = both_true (has_sent (book es).sent z d) (is_unknown (partner_in (book es).made z)) a.0 in
+    let two = and_parts (has_sent (book es).sent z d) (is_unknown (partner_in (book es).made z)) a.0 in
     record {
       given = e ∙ ap (λ y. Some y) a.1;
       sent = subst (λ y. has_sent (book es).sent y d ≡ true) a.1 two.0;
@@ -65,7 +66,7 @@ requests es fresh d x a free =
     let given : made_last (book es).made a.head.origin (pair_at 0 (drop 15 d)) ≡ Some x = found (given_looks a.head.origin (pair_at 0 (drop 15 d))) es fresh x a.given in
     let sent : has_sent (book es).sent x d ≡ true = marked (sent_marks x d) es fresh a.sent in
     ap (asked_by (book es) d) a.read ∙ (ap (if_asked (book es) d) given
-    ∙ ap (λ b. if b then Some x else None) (both_so (has_sent (book es).sent x d) (is_unknown (partner_in (book es).made x)) sent free))
+    ∙ ap (λ b. if b then Some x else None) (and_from (has_sent (book es).sent x d) (is_unknown (partner_in (book es).made x)) sent free))
 
 pub one_asks : (es : List Event) → Fresh empty es → (d : List ℕ) (x y : Name) → Asks es d x → Asks es d y → x ≡ y
 one_asks es fresh d x y a b =
@@ -141,8 +142,8 @@ module _ (es : List Event) (fresh : Fresh empty es) (x : Name) where
         (λ y j. elim j [
           | inl p ↦ (let same : d ≡ p.0 = (let z = p.1.2.1 in cc z) in
               let one : w ≡ x = one_asks es fresh p.0 w x (subst (λ k. Asks es k w) same a) p.2 in
-              not_both (same_name w x) f (subst (λ z. same_name w z ≡ true) one (name_itself w)))
-          | inr p ↦ (let i : id ≡ x.id = (let z = p.1.2.1 in cc z) in not_both (same_name who x) g (name_true node id x p.1.2.0 i))
+              both_ways (same_name w x) f (subst (λ z. same_name w z ≡ true) one (name_itself w)))
+          | inr p ↦ (let i : id ≡ x.id = (let z = p.1.2.1 in cc z) in both_ways (same_name who x) g (name_true node id x p.1.2.0 i))
         ]),
         ap (λ o. partner_in (asked_note node own id pair o ∷ (book es).made) x) r
             ∙ (ap (λ k. if k then Some who else first_name (if same_name who x then Some w else None) (partner_in (book es).made x)) f
@@ -207,12 +208,12 @@ module _ (es : List Event) (fresh : Fresh empty es) (x : Name) where
       let is : who ≡ x = same_names who x g in
       inl (
         (w, (d, (pair, at, (ap (λ (z : Name). z.node) is, ap (λ (z : Name). Made z.id pair at (Some d)) is)), a)),
-        or_so (same_name who x && not (is_unknown (requester (book es) (Some d)))) (was_asked (book es).made x) (both_so (same_name who x) _ g (ap (λ o. not (is_unknown o)) r)),
+        or_left (same_name who x && not (is_unknown (requester (book es) (Some d)))) (was_asked (book es).made x) (and_from (same_name who x) _ g (ap (λ o. not (is_unknown o)) r)),
       )
   was_case node own id pair at d w a r false g =
       let who : Name = record { node = node; id = id } in
       inr (
-        (λ p. (let i : id ≡ x.id = (let z = p.1.1.2.1 in cc z) in not_both (same_name who x) g (name_true node id x p.1.1.2.0 i))),
+        (λ p. (let i : id ≡ x.id = (let z = p.1.1.2.1 in cc z) in both_ways (same_name who x) g (name_true node id x p.1.1.2.0 i))),
         ap (λ k. (k && not (is_unknown (requester (book es) (Some d)))) || was_asked (book es).made x) g,
       )
 

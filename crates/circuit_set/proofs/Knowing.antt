@@ -2,6 +2,7 @@
 use Rattle.std.specs.Prelude.{◌≡◌, ℕ, suc, ◌⊎◌, Bool, true, false, ◌&&◌, ◌||◌, List, [], ◌∷◌, drop, slice_get, Option, Some, None, Ok, refl}
 use Rattle.std.specs.List.{AllByRecursion}
 use Rattle.std.proofs.Common.{sym, ◌∙◌, ap, subst, inl, inr}
+use Rattle.std.proofs.lemmas.Bool.{and_parts}
 use Rattle.ax_address.specs.Callsign.{Callsign, IsCallsign}
 use Rattle.l3_datagram.specs.declared.datagram.DatagramHead.{DatagramHead}
 use Rattle.l3_datagram.specs.Datagrams.{head_at, octets_with}
@@ -162,11 +163,6 @@ outs_sent net x h to s there l k own call (o ∷ os) i ss a p =
     outs_sent net x h to s there l k own call os (suc i) (record { who = x; place = i; number = o.1; datagram = datagram_to s h.at o.0 } ∷ ss) a.1 (now, p)
 
 -- ---- who has asked ----
-both_true : (a b : Bool) → (a && b) ≡ true → (a ≡ true) × (b ≡ true)
-both_true true true e = (refl, refl)
-both_true true false e = cc
-both_true false b e = cc
-
 -- the sending of a copy
 pub record Sender (net : Net) (x : Name) (d : List ℕ) : Type 0 where
   pub note : SentNote
@@ -175,7 +171,7 @@ pub record Sender (net : Net) (x : Name) (d : List ℕ) : Type 0 where
   pub ok : SentOk net note
 
 sender_case : (net : Net) (x : Name) (d : List ℕ) (s : SentNote) (b c : Bool) → (same_name s.who x && is_copy d s.datagram) ≡ b → (b || c) ≡ true → SentOk net s → (c ≡ true → Sender net x d) → Sender net x d
-sender_case net x d s true c t e k later = let two = both_true (same_name s.who x) (is_copy d s.datagram) t in record { note = s; who = same_names s.who x two.0; copy = two.1; ok = k }
+sender_case net x d s true c t e k later = let two = and_parts (same_name s.who x) (is_copy d s.datagram) t in record { note = s; who = same_names s.who x two.0; copy = two.1; ok = k }
 sender_case net x d s false c t e k later = later e
 
 pub sender_of : (net : Net) (x : Name) (d : List ℕ) (ss : List SentNote) → AllByRecursion (SentOk net) ss → has_sent ss x d ≡ true → Sender net x d

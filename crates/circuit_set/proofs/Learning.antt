@@ -3,7 +3,9 @@ use Rattle.std.specs.Prelude.{◌≡◌, ◌≢◌, ℕ, suc, ◌⊎◌, Bool, t
 use Rattle.std.specs.List.{AllByRecursion}
 use Rattle.std.proofs.Common.{sym, ◌∙◌, ap, subst, inl, inr, arith}
 use Rattle.std.proofs.lemmas.Bool.Decides.{nat_tests}
+use Rattle.radio_base.proofs.Each.{each_map}
 use Rattle.ax_address.specs.Callsign.{Callsign, IsCallsign}
+use Rattle.ax_address.proofs.SameCalls.{same_call-true}
 use Rattle.l3_datagram.specs.declared.datagram.DatagramHead.{DatagramHead}
 use Rattle.l3_datagram.specs.declared.datagram.DatagramRefusal.{DatagramRefusal}
 use Rattle.l3_datagram.specs.Datagrams.{head_at}
@@ -25,7 +27,6 @@ use Rattle.circuit_l4.specs.Transports.{pair_at}
 use Rattle.circuit_set.proofs.Acts.{set_self}
 use Rattle.circuit_set.proofs.Asks.{Asks}
 use Rattle.circuit_set.proofs.Cases.{AskedFor, IsNew, Lives, MadeBy, Opener, Says, step_every}
-use Rattle.circuit_set.proofs.Copies.{same_calls}
 use Rattle.circuit_set.proofs.Ended.{Ends}
 use Rattle.circuit_set.proofs.Given.{Numbers, none_of, one}
 use Rattle.circuit_set.proofs.Knowing.{Asker, EndOk, Forth, Known, Lasts, MadeOk, Opened, Sender, SentOk, asker_of, lasts_itself, made_then, outs_sent, own_then, sender_of, sent_then}
@@ -39,7 +40,7 @@ use Rattle.circuit_set.proofs.Stepped as stepped
 use Rattle.circuit_set.proofs.Stepped.{same_holder}
 use Rattle.circuit_table.proofs.Names.{SameEnd}
 use Rattle.circuit_table.proofs.Origins.{origin_read}
-use Rattle.circuit_set.proofs.Unrepeated.{each, each_noticed}
+use Rattle.circuit_set.proofs.Unrepeated.{each_noticed}
 use Rattle.circuit_set.proofs.Written.{RoleSpeaks}
 
 and_first : (a b : Bool) → (a && b) ≡ true → a ≡ true
@@ -134,7 +135,7 @@ module _ (net : Net) (k : Known net) (n : ℕ) (s : SetState) (here : slice_get 
       sets = λ i u q. sets_now t (k.sets n s here) i u q;
       ends = λ z j q. end_case ok z j q (same_or x z);
       sent = sent;
-      made = subst (AllByRecursion (MadeOk new)) (sym made_is) (all_noticed (MadeOk new) (made_keeps new) x notes net.book.made (each (MadeOk net) (MadeOk new) (made_then net new forth) net.book.made k.made));
+      made = subst (AllByRecursion (MadeOk new)) (sym made_is) (all_noticed (MadeOk new) (made_keeps new) x notes net.book.made (each_map (MadeOk net) (MadeOk new) (made_then net new forth) net.book.made k.made));
     }
 
   -- what a step of an end leaves in the book
@@ -169,7 +170,7 @@ module _ (net : Net) (k : Known net) (n : ℕ) (s : SetState) (here : slice_get 
       let f : Forth net new = forth h g.end over c there same.pair in
       let sent : AllByRecursion (SentOk new) (put_sents x r.1.0 (datagram_to s h.at) g.outs net.book.sent) =
       outs_sent new x h to s (stepped.end_now net n s here h g.end over c there) (record { pair = same.pair; asked = refl; at = refl }) ok (own_now (record s { ends = with_end to s.ends }) refl) (k.sets n s here).0
-      g.outs r.1.0 net.book.sent asks (each (SentOk net) (SentOk new) (sent_then net new f) net.book.sent k.sent) in
+      g.outs r.1.0 net.book.sent asks (each_map (SentOk net) (SentOk new) (sent_then net new f) net.book.sent k.sent) in
       changed h g.end over c there same.pair g.notes ok_now r.0 (subst (AllByRecursion (SentOk new)) (sym r.1.1) sent)
 
   leaves_so : (h : Holder) → end_of h.id s.ends ≡ Some h → h.gone ≡ false → has_ended h.end.phase ≡ true
@@ -180,7 +181,7 @@ module _ (net : Net) (k : Known net) (n : ℕ) (s : SetState) (here : slice_get 
       let new : Net = record { sets = slice_set net.sets n (record s { ends = with_end to s.ends }); book = c } in
       let ok : EndOk h = k.ends (record { node = n; id = h.id }) h (stepped.end_then net n s here h h.end true c there) in
       let ok_now : EndOk to = record { at = ok.at; speaks = ok.speaks; asked = ok.asked } in
-      changed h h.end true c there refl [] ok_now refl (each (SentOk net) (SentOk new) (sent_then net new (forth h h.end true c there refl)) net.book.sent k.sent)
+      changed h h.end true c there refl [] ok_now refl (each_map (SentOk net) (SentOk new) (sent_then net new (forth h h.end true c there refl)) net.book.sent k.sent)
 
   -- ---- no end ----
   beside : (c : Book) → c.made ≡ net.book.made → AllByRecursion (SentOk net) c.sent → Known (record { sets = slice_set net.sets n s; book = c })
@@ -191,8 +192,8 @@ module _ (net : Net) (k : Known net) (n : ℕ) (s : SetState) (here : slice_get 
         calls = k.calls;
         sets = k.sets;
         ends = k.ends;
-        sent = each (SentOk net) (SentOk mid) (sent_then net mid f) c.sent sent;
-        made = subst (AllByRecursion (MadeOk mid)) (sym made_is) (each (MadeOk net) (MadeOk mid) (made_then net mid f) net.book.made k.made);
+        sent = each_map (SentOk net) (SentOk mid) (sent_then net mid f) c.sent sent;
+        made = subst (AllByRecursion (MadeOk mid)) (sym made_is) (each_map (MadeOk net) (MadeOk mid) (made_then net mid f) net.book.made k.made);
       } in
       subst (λ ss. Known (record { sets = ss; book = c })) (sym (set_self net.sets n s here)) all
 
@@ -285,7 +286,7 @@ module _ (net : Net) (k : Known net) (n : ℕ) (s : SetState) (here : slice_get 
             here = end_here;
             pair = e ∙ ap (λ r. Some r) (sym asker.pair_is);
             from = subst (λ k. IsCallOf new2.sets x.node k) o.origin (own_then net new2 forth2 x.node c.head.origin asker.own);
-            to = (t2, set_same net.sets n s t2 here, sym (same_calls c.head.dest s.own c.mine) ∙ sym asker.to);
+            to = (t2, set_same net.sets n s t2 here, sym (same_call-true c.head.dest s.own c.mine) ∙ sym asker.to);
           }
 
       opened_case : (p : Option Pair) (d : Option (List ℕ)) (x : Name) → asked ≡ p → MadeBy s a at g.end.role p d → requester net.book d ≡ Some x → Opened new2 note x
@@ -311,8 +312,8 @@ module _ (net : Net) (k : Known net) (n : ℕ) (s : SetState) (here : slice_get 
       new_known =
           let r = told_noted s n s.own h2 g first in
           let sent : AllByRecursion (SentOk new2) (put_sents y first.places (datagram_to s at) g.outs net.book.sent) =
-          outs_sent new2 y h2 h2 s end_here (lasts_itself h2) end_ok (own_now t2 refl) (k.sets n s here).0 g.outs first.places net.book.sent asks (each (SentOk net) (SentOk new2) (sent_then net new2 forth2) net.book.sent k.sent) in
-          let made_all : AllByRecursion (MadeOk new2) first.made = (note_ok, each (MadeOk net) (MadeOk new2) (made_then net new2 forth2) net.book.made k.made) in
+          outs_sent new2 y h2 h2 s end_here (lasts_itself h2) end_ok (own_now t2 refl) (k.sets n s here).0 g.outs first.places net.book.sent asks (each_map (SentOk net) (SentOk new2) (sent_then net new2 forth2) net.book.sent k.sent) in
+          let made_all : AllByRecursion (MadeOk new2) first.made = (note_ok, each_map (MadeOk net) (MadeOk new2) (made_then net new2 forth2) net.book.made k.made) in
           record {
             calls = calls_now t2 refl;
             sets = λ i u q. sets_now t2 (k.sets n s here) i u q;
@@ -341,8 +342,8 @@ module _ (net : Net) (k : Known net) (n : ℕ) (s : SetState) (here : slice_get 
         calls = calls_now t refl;
         sets = λ i u q. sets_now t (k.sets n s here) i u q;
         ends = λ z j q. (let r = stepped.was_lost net n s here pair more c z j (nat_eq z.node n) refl q in subst EndOk r.3 (gone_ok r.0 r.2 (k.ends z r.0 r.1)));
-        sent = subst (AllByRecursion (SentOk new)) (sym sent_is) (each (SentOk net) (SentOk new) (sent_then net new f) net.book.sent k.sent);
-        made = subst (AllByRecursion (MadeOk new)) (sym made_is) (each (MadeOk net) (MadeOk new) (made_then net new f) net.book.made k.made);
+        sent = subst (AllByRecursion (SentOk new)) (sym sent_is) (each_map (SentOk net) (SentOk new) (sent_then net new f) net.book.sent k.sent);
+        made = subst (AllByRecursion (MadeOk new)) (sym made_is) (each_map (MadeOk net) (MadeOk new) (made_then net new f) net.book.made k.made);
       }
 
   up_known : (a : Act) → IsAct a → IsUp a → P (set_step s a)

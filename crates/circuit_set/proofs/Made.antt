@@ -2,6 +2,7 @@
 use Rattle.std.specs.Prelude.{◌≡◌, ◌≢◌, ℕ, suc, ◌+◌, ◌≤◌, ◌<◌, ◌⊎◌, Bool, true, false, ◌||◌, nat_eq, if◌then◌else◌, List, [], ◌∷◌, ◌++◌, slice_get, slice_set, Option, Some, None, refl, not, ◌&&◌}
 use Rattle.std.proofs.Common.{sym, ◌∙◌, ap, subst, inl, inr, arith}
 use Rattle.std.proofs.lemmas.Bool.Decides.{nat_tests}
+use Rattle.std.proofs.lemmas.Bool.{ne_eqb}
 use Rattle.ax_address.specs.Callsign.{Callsign, IsCallsign}
 use Rattle.circuit_l4.specs.declared.pair.Pair.{Pair}
 use Rattle.circuit_l4.specs.declared.role.Role.TheVariants.{Responder}
@@ -69,13 +70,6 @@ no_flights y (p ∷ ps) h = none_flight_case y p ps (same_name p.who y) refl (h 
 some_name : (x z : Name) (b : Bool) → same_name x z ≡ b → (x ≡ z) ⊎ (same_name x z ≡ false)
 some_name x z true t = inl (same_names x z t)
 some_name x z false t = inr t
-
-apart_case : (i j : ℕ) (b : Bool) → nat_eq i j ≡ b → (i ≡ j → ⊥) → b ≡ false
-apart_case i j true e h = absurd (h (grind (arith, nat_tests)))
-apart_case i j false e h = refl
-
-number_apart : (i j : ℕ) → (i ≡ j → ⊥) → nat_eq i j ≡ false
-number_apart i j h = apart_case i j (nat_eq i j) refl h
 
 module _ (net : Net) (k : Kept net) (n : ℕ) (s : SetState) (at : Callsign) (asked : Option Pair) (pair next : Pair) (from : Option Name) (g : Effect) (c : Book) (over : Bool)
     (here : slice_get net.sets n ≡ Some s) (m : IsMade net s at asked from g)
@@ -228,7 +222,7 @@ module _ (net : Net) (k : Kept net) (n : ℕ) (s : SetState) (at : Callsign) (as
 
   old_case : (id : ℕ) (o : Option Holder) → end_of id s.ends ≡ o → (s.number ≡ id → ⊥) → end_of id (s.ends ++ to ∷ []) ≡ o
   old_case id (Some h) e apart = end_kept id to h s.ends e
-  old_case id None e apart = end_new id to s.ends e ∙ ap (λ b. if b then Some to else None) (number_apart s.number id apart)
+  old_case id None e apart = end_new id to s.ends e ∙ ap (λ b. if b then Some to else None) (ne_eqb s.number id apart)
 
   end_other_case : (i id : ℕ) (b : Bool) → nat_eq i n ≡ b → (y ≡ record { node = i; id = id } → ⊥) → end_in (slice_get (slice_set net.sets n t) i) id ≡ end_in (slice_get net.sets i) id
   end_other_case i id true e apart =

@@ -1,9 +1,11 @@
 -- A new end of a fresh run: its pair is that of no end which its node holds, nor of one that an open end names.
 use Rattle.std.specs.Prelude.{◌≡◌, ◌≢◌, ℕ, ◌⊎◌, Bool, true, false, ◌&&◌, ◌||◌, nat_eq, if◌then◌else◌, List, [], ◌∷◌, ◌++◌, drop, slice_get, slice_set, Option, Some, None, Result, Ok, Err, refl}
-use Rattle.std.specs.Cmp.Lexicographic.{pointwise}
 use Rattle.std.proofs.Common.{sym, ◌∙◌, ap, subst, inl, inr, arith}
 use Rattle.std.proofs.lemmas.Bool.Decides.{nat_tests}
+use Rattle.std.proofs.lemmas.Bool.{and_parts}
+use Rattle.std.proofs.Math.Bool.{or-true}
 use Rattle.ax_address.specs.Callsign.{Callsign, same_call}
+use Rattle.ax_address.proofs.SameCalls.{same_call-true, call_refl}
 use Rattle.l3_datagram.specs.declared.datagram.DatagramHead.{DatagramHead}
 use Rattle.l3_datagram.specs.declared.datagram.DatagramRefusal.{DatagramRefusal}
 use Rattle.l3_datagram.specs.Datagrams.{head_at}
@@ -17,7 +19,6 @@ use Rattle.circuit_set.specs.NotedRuns.{Net, end_at, told_to}
 use Rattle.circuit_table.specs.Runs.{end_in}
 use Rattle.circuit_set.proofs.Bridge.{name_itself, same_names}
 use Rattle.circuit_set.proofs.Cases.{IsForeign}
-use Rattle.circuit_set.proofs.Copies.{same_calls}
 use Rattle.circuit_set.proofs.Fair.{Fair, InMade, IsPassed, LostOk, NoteOf, NoteOk, Partners, Passed, back_false, in_contains, note_of_name, open_parts}
 use Rattle.circuit_set.proofs.Given.{Numbers, none_of}
 use Rattle.circuit_set.proofs.Lookups.{has_note, set_same}
@@ -26,11 +27,6 @@ use Rattle.circuit_set.proofs.Stepped as stepped
 use Rattle.circuit_set.proofs.Stepped.{same_holder}
 
 -- ---- who has asked ----
-and_parts : (a b : Bool) → (a && b) ≡ true → (a ≡ true) × (b ≡ true)
-and_parts true true e = (refl, refl)
-and_parts true false e = cc
-and_parts false b e = cc
-
 -- the note of the end that a call gave a pair last; a later one with the same call and pair is of an end that was no longer held then
 pub record Last (net : Net) (ms : List MadeNote) (own : Callsign) (pair : Pair) (a : Name) : Type 0 where
   pub note : MadeNote
@@ -107,13 +103,6 @@ pub asked_for : (net : Net) (s : SetState) (request : Option (List ℕ)) (a : Na
 asked_for net s None a p f q = cc
 asked_for net s (Some d) a p f q = asked_case net s d f.0 a (head_at d) p f.2 f.1 q
 
-same_bytes : (xs : List ℕ) → pointwise nat_eq xs xs ≡ true
-same_bytes [] = refl
-same_bytes (x ∷ xs) = let e : nat_eq x x ≡ true = grind (arith, nat_tests) in ap (λ b. b && pointwise nat_eq xs xs) e ∙ same_bytes xs
-
-pub call_itself : (c : Callsign) → same_call c c ≡ true
-call_itself c = let e : nat_eq c.ssid c.ssid ≡ true = grind (arith, nat_tests) in ap (λ b. b && nat_eq c.ssid c.ssid) (same_bytes c.letters) ∙ e
-
 -- ---- the pairs of the ends that are held ----
 or_first : (a b : Bool) → (a || b) ≡ false → a ≡ false
 or_first true b e = cc
@@ -142,19 +131,15 @@ unused_by : (id : ℕ) (p : Pair) (k : Holder) (hs : List Holder) → end_of id 
 unused_by id p k [] e held u = cc
 unused_by id p k (x ∷ hs) e held u = held_case id p x k hs (nat_eq x.id id) x.gone e held refl u (λ q v. unused_by id p k hs q held v)
 
-or_true : (a : Bool) → (a || true) ≡ true
-or_true true = refl
-or_true false = refl
-
 in_noted : (m : MadeNote) (ms : List MadeNote) → InMade m ms → has_note ms m.who ≡ true
 in_noted m [] i = absurd i
 in_noted m (x ∷ xs) (inl e) = ap (λ (k : MadeNote). same_name k.who m.who || has_note xs m.who) (sym e) ∙ ap (λ b. b || has_note xs m.who) (name_itself m.who)
-in_noted m (x ∷ xs) (inr i) = ap (λ b. same_name x.who m.who || b) (in_noted m xs i) ∙ or_true (same_name x.who m.who)
+in_noted m (x ∷ xs) (inr i) = ap (λ b. same_name x.who m.who || b) (in_noted m xs i) ∙ or-true (same_name x.who m.who)
 
 same_set : (i j : SetState) (o : Option SetState) → o ≡ Some i → o ≡ Some j → i ≡ j
 same_set i j o e q = let two : Some i ≡ Some j = sym e ∙ q in cc
 
-some_is : (o : Option Name) (x : Name) → is_some_name o x ≡ true → o ≡ Some x
+pub some_is : (o : Option Name) (x : Name) → is_some_name o x ≡ true → o ≡ Some x
 some_is None x e = cc
 some_is (Some w) x e = ap (λ v. Some v) (same_names w x e)
 
@@ -208,7 +193,7 @@ module _ (net : Net) (lost : List Name) (f : Fair net lost) (n : ℕ) (s t : Set
   note_case m (inr i) = old_note m i
 
   noted : (z : Name) → has_note net.book.made z ≡ true → has_note c.made z ≡ true
-  noted z e = ap (λ ms. has_note ms z) made ∙ ap (λ b. same_name y z || b) e ∙ or_true (same_name y z)
+  noted z e = ap (λ ms. has_note ms z) made ∙ ap (λ b. same_name y z || b) e ∙ or-true (same_name y z)
 
   noted_new : has_note c.made y ≡ true
   noted_new = ap (λ ms. has_note ms y) made ∙ ap (λ b. b || has_note net.book.made y) (name_itself y)
@@ -286,8 +271,8 @@ module _ (net : Net) (lost : List Name) (f : Fair net lost) (n : ℕ) (s t : Set
       let o : NoteOk net l.note = f.notes l.note l.inside in
       let at : l.note.who.node ≡ n = ap (λ (w : Name). w.node) l.who ∙ node in
       let is : o.set ≡ s = same_set o.set s (slice_get net.sets l.note.who.node) o.here (ap (λ i. slice_get net.sets i) at ∙ here) in
-      let own : s.own ≡ q.origin = ap (λ (u : SetState). u.own) (sym is) ∙ o.own ∙ same_calls l.note.own q.origin l.call in
-      let yes : same_call q.origin s.own ≡ true = ap (λ k. same_call q.origin k) own ∙ call_itself q.origin in
+      let own : s.own ≡ q.origin = ap (λ (u : SetState). u.own) (sym is) ∙ o.own ∙ same_call-true l.note.own q.origin l.call in
+      let yes : same_call q.origin s.own ≡ true = ap (λ k. same_call q.origin k) own ∙ call_refl q.origin in
       let bad : true ≡ false = sym yes ∙ q.other in
       cc
 

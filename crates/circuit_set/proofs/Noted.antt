@@ -1,9 +1,7 @@
 -- What the book notes, read off the events by how they split.
-use Rattle.std.specs.Prelude.{◌≡◌, ℕ, ◌⊎◌, Bool, true, false, ◌&&◌, ◌||◌, nat_eq, List, [], ◌∷◌, ◌++◌, Option, Some, None, refl}
-use Rattle.std.proofs.Common.{sym, ◌∙◌, ap, subst, inl, inr, arith}
-use Rattle.std.proofs.lemmas.Bool.Decides.{nat_tests}
-use Rattle.std.specs.Cmp.Lexicographic.{pointwise}
-use Rattle.ax_address.specs.Callsign.{Callsign, same_call}
+use Rattle.std.specs.Prelude.{◌≡◌, ℕ, ◌⊎◌, Bool, true, false, ◌||◌, nat_eq, List, [], ◌∷◌, ◌++◌, Option, Some, None, refl}
+use Rattle.std.proofs.Common.{sym, ◌∙◌, ap, subst, inl, inr}
+use Rattle.std.proofs.lemmas.Bool.{and_parts, eqb-true}
 use Rattle.circuit_l4.specs.declared.pair.Pair.{Pair}
 use Rattle.circuit_set.specs.TooLate.{Has, Last}
 use Rattle.circuit_set.specs.Books.{Book, Fresh, FreshFrom, Timely, TimelyTold, FreshTold, empty, lost_with, with_event, with_events, lost_in}
@@ -119,35 +117,11 @@ module _ {f : List Event → Bool} {P : List Event → Event → Type 0} (k : Ma
       (λ fresh h. (let z : false ≡ true = sym k.start ∙ h in absurd (cc z)))
 
 -- ---- tests ----
-pub both_true : (a b : Bool) → (a && b) ≡ true → (a ≡ true) × (b ≡ true)
-both_true true b e = (refl, e)
-both_true false b e = absurd (cc e)
-
-pub both_so : (a b : Bool) → a ≡ true → b ≡ true → (a && b) ≡ true
-both_so true b e f = f
-both_so false b e f = absurd (cc e)
-
-pub nat_itself : (n : ℕ) → nat_eq n n ≡ true
-nat_itself n = grind (arith, nat_tests)
-
-pub nat_same : (m n : ℕ) → nat_eq m n ≡ true → m ≡ n
-nat_same m n e = grind (arith, nat_tests)
-
-pub list_itself : (xs : List ℕ) → pointwise nat_eq xs xs ≡ true
-list_itself [] = refl
-list_itself (x ∷ xs) = both_so (nat_eq x x) _ (nat_itself x) (list_itself xs)
-
-pub call_itself : (c : Callsign) → same_call c c ≡ true
-call_itself c = both_so _ (nat_eq c.ssid c.ssid) (list_itself c.letters) (nat_itself c.ssid)
-
-pub pair_itself : (p : Pair) → same_pair p p ≡ true
-pair_itself p = both_so (nat_eq p.index p.index) (nat_eq p.ident p.ident) (nat_itself p.index) (nat_itself p.ident)
-
 pair_is : (p q : Pair) → p.index ≡ q.index → p.ident ≡ q.ident → p ≡ q
 pair_is p q i d = rw (i, d) refl
 
 pub pairs_same : (p q : Pair) → same_pair p q ≡ true → p ≡ q
-pairs_same p q e = let both = both_true (nat_eq p.index q.index) (nat_eq p.ident q.ident) e in pair_is p q (nat_same p.index q.index both.0) (nat_same p.ident q.ident both.1)
+pairs_same p q e = let both = and_parts (nat_eq p.index q.index) (nat_eq p.ident q.ident) e in pair_is p q (eqb-true p.index q.index both.0) (eqb-true p.ident q.ident both.1)
 
 -- an end of this number at this node
 abbrev pub named : ℕ → ℕ → Name
@@ -163,32 +137,9 @@ pub split_so : (a b : Bool) → (a ≡ true → b ≡ false → ⊥) → a ≡ t
 split_so a true f e = refl
 split_so a false f e = absurd (f e refl)
 
-pub not_both : (b : Bool) → b ≡ false → b ≡ true → ⊥
-not_both b e f = let z : false ≡ true = sym e ∙ f in absurd (cc z)
-
 pub names_so : (x y : Name) → x.node ≡ y.node → x.id ≡ y.id → x ≡ y
 names_so x y e f = name_so x.node x.id y e f
-
-pub or_so : (a b : Bool) → a ≡ true → (a || b) ≡ true
-or_so true b e = refl
-or_so false b e = absurd (cc e)
-
-pub or_then : (a b : Bool) → b ≡ true → (a || b) ≡ true
-or_then true b e = refl
-or_then false b e = e
 
 pub or_none : (a b : Bool) → a ≡ false → (a || b) ≡ b
 or_none true b e = absurd (cc e)
 or_none false b e = refl
-
-pub or_cases : (a b : Bool) → (a || b) ≡ true → (a ≡ true) ⊎ (b ≡ true)
-or_cases true b e = inl refl
-or_cases false b e = inr e
-
-pub neither : (a b : Bool) → (a || b) ≡ false → (a ≡ false) × (b ≡ false)
-neither true b e = absurd (cc e)
-neither false b e = (refl, e)
-
-pub not_true : (b : Bool) → (b ≡ true → ⊥) → b ≡ false
-not_true true f = absurd (f refl)
-not_true false f = refl

@@ -1,8 +1,8 @@
 -- The notes of the ends that were made: by the book and by the events.
-use Rattle.std.specs.Prelude.{◌≡◌, ℕ, zero, suc, ◌<◌, ◌⊎◌, Bool, true, false, nat_eq, if◌then◌else◌, List, [], ◌∷◌, ◌++◌, length, Contains, Option, refl}
+use Rattle.std.specs.Prelude.{◌≡◌, ℕ, zero, suc, ◌<◌, ◌⊎◌, Bool, true, false, if◌then◌else◌, List, [], ◌∷◌, ◌++◌, length, Contains, Option, refl}
 use Rattle.std.proofs.Common.{sym, ◌∙◌, ap, subst, inl, inr, arith, append_assoc, append-nil}
-use Rattle.std.proofs.lemmas.Bool.Decides.{nat_tests}
 use Rattle.ax_address.specs.Callsign.{Callsign}
+use Rattle.ax_address.proofs.SameNumbers.{nat_turned}
 use Rattle.circuit_l4.specs.declared.pair.Pair.{Pair}
 use Rattle.circuit_l4.specs.declared.notice.EndNotice.{EndNotice}
 use Rattle.circuit_set.specs.Books.{Book, MadeNote, empty, with_event, with_events, requester, with_notice}
@@ -43,10 +43,7 @@ told_notes x n m [] i = absurd i
 told_notes x n m (k ∷ ms) (inl e) = (k, inl refl, e)
 told_notes x n m (k ∷ ms) (inr i) = let r = told_notes x n m ms i in (r.0, inr r.1, r.2)
 
-nat_turned : (a b : ℕ) → nat_eq a b ≡ nat_eq b a
-nat_turned a b = grind (arith, nat_tests)
-
-turned : (x y : Name) → same_name x y ≡ same_name y x
+pub turned : (x y : Name) → same_name x y ≡ same_name y x
 turned x y = rw (nat_turned x.node y.node, nat_turned x.id y.id) refl
 
 -- of which end it is, with which pair, and what it was told

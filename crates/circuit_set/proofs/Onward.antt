@@ -9,7 +9,8 @@ use Rattle.circuit_l4.specs.State.{Effect, State}
 use Rattle.circuit_l4.specs.Laws.{FailsAfterRetries, IsNew, after_inputs, followed_by}
 use Rattle.circuit_l4.specs.Table.{Input, step}
 use Rattle.circuit_l4.specs.Expiries as ends
-use Rattle.circuit_l4.specs.Expiries.{Moment, any_renews, count, expires, expiries, is_anew, is_closing, renews, since_last}
+use Rattle.circuit_l4.specs.Expiries.{Moment, any_renews, count, expires, expiries, is_anew, is_closing, renews}
+use Rattle.circuit_l4.proofs.Retries.{since_all}
 use Rattle.circuit_set.proofs.Acts.{lives_on}
 use Rattle.circuit_set.proofs.Invariant.{Lived}
 
@@ -22,18 +23,10 @@ count_still : (ms : List Moment) (m : Moment) (more : List Moment) → expires m
 count_still [] m more e = let here : count (m ∷ more) ≡ 0 + count more = simp e refl in omega (arith, here)
 count_still (x ∷ ms) m more e = ap (λ n. (if expires x then 1 else 0) + n) (count_still ms m more e)
 
-neither : (a b : Bool) → (a || b) ≡ false → (a ≡ false) × (b ≡ false)
-neither true b e = absurd (cc e)
-neither false b e = (refl, e)
-
-since_none : (ms : List Moment) → any_renews ms ≡ false → since_last ms ≡ ms
-since_none [] e = refl
-since_none (m ∷ ms) e = let parts = neither (renews m) (any_renews ms) e in simp (parts.0, parts.1) refl
-
 first_still : (b : Bool) (m : Moment) (more : List Moment) → any_renews more ≡ b → renews m ≡ false → expires m ≡ false → expiries (m ∷ more) ≡ expiries more
 first_still true m more e f g = simp e refl
 first_still false m more e f g =
-    let all : expiries more ≡ count more = ap count (since_none more e) in
+    let all : expiries more ≡ count more = ap count (since_all more e) in
     let here : expiries (m ∷ more) ≡ count (m ∷ more) = simp (e, f) refl in
     here ∙ count_still [] m more g ∙ sym all
 

@@ -1,6 +1,7 @@
 -- With what window an end was told that its circuit is open, and whether it was told how it ended: by the book and by the events.
 use Rattle.std.specs.Prelude.{◌≡◌, ℕ, ◌⊎◌, Bool, true, false, ◌||◌, if◌then◌else◌, List, [], ◌∷◌, ◌++◌, Some, refl}
 use Rattle.std.proofs.Common.{sym, ◌∙◌, ap, subst, inl, inr}
+use Rattle.std.proofs.lemmas.Bool.{or_left, both_ways}
 use Rattle.circuit_l4.specs.declared.notice.EndNotice.{EndNotice}
 use Rattle.circuit_l4.specs.declared.notice.EndNotice.TheVariants.{Opened, Refused, Closed, ClosedByPartner, FailedRetries, FailedOversize, FailedInactive}
 use Rattle.circuit_set.specs.TooLate.{First, Has, Ends, OpenedWith, Tells}
@@ -10,7 +11,7 @@ use Rattle.circuit_set.specs.NotedRuns.{opened_window, told_to}
 use Rattle.circuit_table.specs.Sets.{CircuitTold, Made, Sent, Heeded, Notice, Gone, Restarted, Lost}
 use Rattle.circuit_set.proofs.Bridge.{same_names}
 use Rattle.circuit_set.proofs.Lookups.{has_note}
-use Rattle.circuit_set.proofs.Noted.{book, name_true, not_both, or_none, or_so}
+use Rattle.circuit_set.proofs.Noted.{book, name_true, or_none}
 use Rattle.circuit_set.proofs.Windows.{last_made, noted_made, notices_in, told_is}
 use Rattle.circuit_set.proofs.Among.{none_split}
 
@@ -94,7 +95,7 @@ module _ (z : Name) where
         (ap (λ (x : Name). x.node) is, ap (λ (x : Name). Notice x.id n) is)
 
     not_z : (n m : EndNotice) → same_name (record { node = e.node; id = id }) z ≡ false → Tells (noticing n) z (Notice z.id m) → ⊥
-    not_z n m h t = let i : id ≡ z.id = (let w = t.1 in cc w) in not_both _ h (name_true e.node id z t.0 i)
+    not_z n m h t = let i : id ≡ z.id = (let w = t.1 in cc w) in both_ways _ h (name_true e.node id z t.0 i)
 
     other_window : (n : EndNotice) → ((w : ℕ) → n ≡ Opened w → ⊥) → ((ns : List EndNotice) → opened_window (n ∷ ns) ≡ opened_window ns) → WindowTurn (noticing n)
     other_window n not skips = inr ((λ w t. not w (let q = t.1 in cc q)), λ es. at es (same_name (record { node = e.node; id = id }) z))
@@ -117,9 +118,9 @@ module _ (z : Name) where
     window_notice FailedInactive = other_window FailedInactive (λ w q. absurd (cc q)) (λ ns. refl)
 
     end_notice : (n : EndNotice) (c d : Bool) → same_name (record { node = e.node; id = id }) z ≡ c → ends_it n ≡ d → EndTurn (noticing n)
-    end_notice n true true h k = inl ((n, told_z n h, k), λ es. ap (λ c. any_ends (tail n c es)) h ∙ or_so (ends_it n) (any_ends (notices_in z es)) k)
+    end_notice n true true h k = inl ((n, told_z n h, k), λ es. ap (λ c. any_ends (tail n c es)) h ∙ or_left (ends_it n) (any_ends (notices_in z es)) k)
     end_notice n true false h k =
-        inr ((λ t. (let same : n ≡ t.0 = (let q = t.1.1 in cc q) in not_both (ends_it n) k (subst (λ m. ends_it m ≡ true) (sym same) t.2))), λ es. ap (λ c. any_ends (tail n c es)) h ∙ or_none (ends_it n) (any_ends (notices_in z es)) k)
+        inr ((λ t. (let same : n ≡ t.0 = (let q = t.1.1 in cc q) in both_ways (ends_it n) k (subst (λ m. ends_it m ≡ true) (sym same) t.2))), λ es. ap (λ c. any_ends (tail n c es)) h ∙ or_none (ends_it n) (any_ends (notices_in z es)) k)
     end_notice n false d h k = inr ((λ t. not_z n t.0 h t.1), λ es. ap (λ c. any_ends (tail n c es)) h)
 
   window_turn : (e : Event) → WindowTurn e

@@ -2,6 +2,8 @@
 use Rattle.std.specs.Prelude.{◌≡◌, ℕ, suc, ◌≤◌, min, Bool, true, false, not, ◌&&◌, ◌||◌, nat_eq, if◌then◌else◌, List, [], ◌∷◌, ◌++◌, drop, slice_get, slice_set, Option, Some, None, Result, Ok, Err, refl}
 use Rattle.std.proofs.Common.{sym, ◌∙◌, ap, subst, inl, inr, arith}
 use Rattle.std.proofs.lemmas.Bool.Decides.{nat_tests}
+use Rattle.std.proofs.lemmas.Bool.{and_parts}
+use Rattle.std.proofs.Math.Bool.{or-true}
 use Rattle.radio_base.specs.declared.modulus.TheConstants.{COUNT_MAX}
 use Rattle.ax_address.specs.Callsign.{Callsign, IsCallsign, same_call}
 use Rattle.l3_datagram.specs.declared.datagram.DatagramHead.{DatagramHead}
@@ -115,18 +117,13 @@ record Said (ps : List Past) (x : Name) (d : List ℕ) : Type 0 where
   entry : Entry past note
   copy : is_copy d note.datagram ≡ true
 
-both_true : (a b : Bool) → (a && b) ≡ true → (a ≡ true) × (b ≡ true)
-both_true true true e = (refl, refl)
-both_true true false e = cc
-both_true false b e = cc
-
 later_said : (p : Past) (ps : List Past) (x : Name) (d : List ℕ) → Said ps x d → Said (p ∷ ps) x d
 later_said p ps x d f = record { past = f.past; inside = inr f.inside; by = f.by; note = f.note; entry = f.entry; copy = f.copy }
 
 said_case : (p : Past) (ps : List Past) (s : SentNote) (ss : List SentNote) (x : Name) (d : List ℕ) (b : Bool) → (same_name s.who x && is_copy d s.datagram) ≡ b → Entry p s → (b || has_sent ss x d) ≡ true
     → (has_sent ss x d ≡ true → Said ps x d) → Said (p ∷ ps) x d
 said_case p ps s ss x d true t e h later =
-    let two = both_true (same_name s.who x) (is_copy d s.datagram) t in
+    let two = and_parts (same_name s.who x) (is_copy d s.datagram) t in
     record { past = p; inside = inl refl; by = e.who ∙ same_names s.who x two.0; note = s; entry = e; copy = two.1 }
 said_case p ps s ss x d false t e h later = later_said p ps x d (later h)
 
@@ -139,7 +136,7 @@ said (p ∷ ps) (s ∷ ss) x d n h = said_case p ps s ss x d (same_name s.who x 
 last_case : (m : MadeNote) (ms : List MadeNote) (own : Callsign) (pair : Pair) (x : Name) (b : Bool) → (if b then Some m.who else made_last ms own pair) ≡ Some x → (made_last ms own pair ≡ Some x → has_note ms x ≡ true)
     → (same_name m.who x || has_note ms x) ≡ true
 last_case m ms own pair x true e later = let same : m.who ≡ x = cc in ap (λ b. b || has_note ms x) (ap (λ w. same_name w x) same ∙ name_itself x)
-last_case m ms own pair x false e later = ap (λ b. same_name m.who x || b) (later e) ∙ acts.or_true (same_name m.who x)
+last_case m ms own pair x false e later = ap (λ b. same_name m.who x || b) (later e) ∙ or-true (same_name m.who x)
 
 last_noted : (ms : List MadeNote) (own : Callsign) (pair : Pair) (x : Name) → made_last ms own pair ≡ Some x → has_note ms x ≡ true
 last_noted [] own pair x e = cc
@@ -157,7 +154,7 @@ record Asker (b : Book) (d : List ℕ) (x : Name) : Type 0 where
 asker_case : (b : Book) (d : List ℕ) (x z : Name) (t : Bool) → (has_sent b.sent z d && is_unknown (partner b z)) ≡ t → has_note b.made z ≡ true → (if t then Some z else None) ≡ Some x → Asker b d x
 asker_case b d x z true t note e =
     let same : z ≡ x = cc in
-    let two = both_true (has_sent b.sent z d) (is_unknown (partner b z)) t in
+    let two = and_parts (has_sent b.sent z d) (is_unknown (partner b z)) t in
     subst (λ w. Asker b d w) same (record { sent = two.0; alone = unknown_is (partner b z) two.1; note = note })
 asker_case b d x z false t note e = cc
 
@@ -279,7 +276,7 @@ module _ (net : Net) (k : Kept net) (n : ℕ) (s : SetState) (here : slice_get n
   requested_case origin d pair window now user node (Some h) e call read =
       let f = open_found (opened_by origin pair) h s.ends e in
       let there : end_of h.id s.ends ≡ Some h = inv.one h f.0 in
-      let asked : asked_with h.asked pair ≡ true = (both_true (asked_with h.asked pair) (same_call h.at origin) (both_true (is_open h) (opened_by origin pair h) f.1).1).0 in
+      let asked : asked_with h.asked pair ≡ true = (and_parts (asked_with h.asked pair) (same_call h.at origin) (and_parts (is_open h) (opened_by origin pair h) f.1).1).0 in
       let q = some_asked h.asked pair asked in
       let role : h.end.role ≡ Responder = (acts.inv net k n s h here there).answers q.0 q.1 in
       λ time. (acts.goes net k n s h here there (accept_again h.end) (acts.again_move net k n s h here there role), told_stays net.book h (accept_again h.end))

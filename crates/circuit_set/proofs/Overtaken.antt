@@ -2,14 +2,16 @@
 use Rattle.std.specs.Prelude.{◌≡◌, ℕ, suc, ◌+◌, ◌-◌, ◌≤◌, ◌<◌, ◌⊎◌, Bool, true, false, ◌&&◌, ◌||◌, nat_eq, nat_lt, if◌then◌else◌, List, [], ◌∷◌, ◌++◌, length, Option, Some, None, refl}
 use Rattle.std.proofs.Common.{sym, ◌∙◌, ap, subst, inl, inr, arith, length-append, append_assoc, append-nil}
 use Rattle.std.proofs.lemmas.Bool.Decides.{nat_tests}
+use Rattle.std.proofs.lemmas.Bool.{and_parts, or_parts, or_right, and_from, or_left, eqb-true, both_ways}
 use Rattle.ax_address.specs.Callsign.{Callsign}
+use Rattle.ax_address.proofs.SameNumbers.{nat_refl}
 use Rattle.circuit_set.specs.TooLate.{Has, FirstSent, HeedsFragment, LatestSending, SendsFragment}
 use Rattle.circuit_set.specs.Books.{Book, Fresh, HeardNote, SentNote, empty, first_place, has, heard_number, heard_sending, is_heard, latest_by, latest_in, with_event, with_events, partner_in, sends}
 use Rattle.circuit_table.specs.Events.{Event, Name, same_name}
 use Rattle.circuit_table.specs.Sets.{CircuitTold, Made, Sent, Heeded, Notice, Gone, Restarted, Lost}
 use Rattle.circuit_set.proofs.Among.{by_snoc}
 use Rattle.circuit_set.proofs.Bridge.{name_itself, same_names}
-use Rattle.circuit_set.proofs.Noted.{Marks, book, book_more, both_so, both_true, finds, found, fresh_less, marked, marks, names_so, nat_itself, nat_same, neither, not_both, or_none, or_so, or_then}
+use Rattle.circuit_set.proofs.Noted.{Marks, book, book_more, finds, found, fresh_less, marked, marks, names_so, or_none}
 use Rattle.circuit_set.proofs.Noting.{noted_append}
 use Rattle.circuit_set.proofs.Sought.{fragment_marks, latest_looks, note_of, places_are, sending_of}
 use Rattle.circuit_set.proofs.Joined.{partner_looks}
@@ -54,7 +56,7 @@ module _ (es : List Event) (fresh : Fresh empty es) (x : Name) (n : ℕ) (node :
 
   heard_true : (m : ℕ) → w ≡ x → m ≡ n → (b : Bool) → is_heard w m hs ≡ b → is_heard x n (if b then hs else record { who = w; number = m } ∷ hs) ≡ true
   heard_true m i j true h = subst (λ z. is_heard z n hs ≡ true) i (subst (λ k. is_heard w k hs ≡ true) j h)
-  heard_true m i j false h = or_so (same_name w x && nat_eq n m) (is_heard x n hs) (both_so (same_name w x) (nat_eq n m) (subst (λ z. same_name w z ≡ true) i (name_itself w)) (subst (λ k. nat_eq n k ≡ true) (sym j) (nat_itself n)))
+  heard_true m i j false h = or_left (same_name w x && nat_eq n m) (is_heard x n hs) (and_from (same_name w x) (nat_eq n m) (subst (λ z. same_name w z ≡ true) i (name_itself w)) (subst (λ k. nat_eq n k ≡ true) (sym j) (nat_refl n)))
 
   heard_same : (m : ℕ) → (same_name w x && nat_eq n m) ≡ false → (b : Bool) → is_heard x n (if b then hs else record { who = w; number = m } ∷ hs) ≡ is_heard x n hs
   heard_same m f true = refl
@@ -63,9 +65,9 @@ module _ (es : List Event) (fresh : Fresh empty es) (x : Name) (n : ℕ) (node :
   fragment_case : (y : Name) (s : SentNote) (m : ℕ) → partner_in (book es).made w ≡ Some y → latest_in (book es).sent y d ≡ Some s → s.number ≡ Some m
       → (c : Bool) → (same_name w x && nat_eq n m) ≡ c → HeardTurn (heard_number w (Some m) hs)
   fragment_case y s m p l k true c =
-      let two = both_true (same_name w x) (nat_eq n m) c in
+      let two = and_parts (same_name w x) (nat_eq n m) c in
       let i : w ≡ x = same_names w x two.0 in
-      let j : m ≡ n = sym (nat_same n m two.1) in
+      let j : m ≡ n = sym (eqb-true n m two.1) in
       let sending : LatestSending es y d (Some n) = subst (LatestSending es y d) (k ∙ ap (λ q. Some q) j) (sending_of y d s es (finds (latest_looks y d) es fresh s l)) in
       inl (
         (d, (ap (λ (z : Name). z.node) i, ap (λ (z : Name). Heeded z.id d) i), y, finds (partner_looks x) es fresh y (subst (λ z. partner_in (book es).made z ≡ Some y) i p), sending),
@@ -77,7 +79,7 @@ module _ (es : List Event) (fresh : Fresh empty es) (x : Name) (n : ℕ) (node :
             let ys : y ≡ r.y = (let z = sym p ∙ r.partner_is in cc z) in
             let note : s ≡ r.note = (let z = sym (subst (λ q. latest_in (book es).sent q d ≡ Some s) ys l) ∙ r.latest_is in cc z) in
             let number : m ≡ n = (let z = sym k ∙ (ap (λ (q : SentNote). q.number) note ∙ r.number) in cc z) in
-            not_both (same_name w x && nat_eq n m) c (both_so (same_name w x) (nat_eq n m) (subst (λ z. same_name w z ≡ true) r.is (name_itself w)) (subst (λ q. nat_eq n q ≡ true) (sym number) (nat_itself n))))),
+            both_ways (same_name w x && nat_eq n m) c (and_from (same_name w x) (nat_eq n m) (subst (λ z. same_name w z ≡ true) r.is (name_itself w)) (subst (λ q. nat_eq n q ≡ true) (sym number) (nat_refl n))))),
         heard_same m c (is_heard w m hs),
       )
 
@@ -139,7 +141,7 @@ module _ (x : Name) (n : ℕ) where
   none_place : (ss : List SentNote) → has x n ss ≡ false → first_place x n ss ≡ 0
   none_place [] h = refl
   none_place (s ∷ ss) h =
-      let two = neither (sends x n s) (has x n ss) h in
+      let two = or_parts (sends x n s) (has x n ss) h in
       ap (λ k. if k then first_place x n ss else (if sends x n s then s.place else 0)) two.1 ∙ ap (λ k. if k then s.place else 0) two.0
 
   -- what one event more leaves of it
@@ -169,7 +171,7 @@ module _ (x : Name) (n : ℕ) where
           let s : SentNote = record { who = record { node = e.node; id = id }; place = b.places; number = number; datagram = sent } in
           record {
             places = refl;
-            sent = λ h. (or_then (sends x n s) (has x n b.sent) h, ap (λ k. if k then first_place x n b.sent else (if sends x n s then b.places else 0)) h);
+            sent = λ h. (or_right (sends x n s) (has x n b.sent) h, ap (λ k. if k then first_place x n b.sent else (if sends x n s then b.places else 0)) h);
             first = λ h k. first_case (has x n b.sent) (sends x n s) (first_place x n b.sent) b.places h k;
           }
       by (Heeded id d) = same_later b _ refl refl
@@ -253,7 +255,7 @@ module _ (x : Name) (n : ℕ) (upto since : List Event) (fresh : Fresh empty (up
       let under : i < first_place x n (book all).sent = grind (arith, nat_tests, l) in
       absurd (omega (arith, a, b, size, under))
   in_book false h l t =
-      let none : Has (λ p e. SendsFragment x n e) upto → ⊥ = λ k. not_both _ h (known k) in
+      let none : Has (λ p e. SendsFragment x n e) upto → ⊥ = λ k. both_ways _ h (known k) in
       elim (has_either {P = SendsFragment x n} upto since (marks (fragment_marks x n) all fresh t)) [
         | inl k ↦ absurd (none k)
         | inr k ↦ (k, none)

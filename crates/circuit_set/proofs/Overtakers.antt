@@ -4,6 +4,8 @@ use Rattle.std.specs.List.{AllByRecursion, IsDistinct, list_any}
 use Rattle.std.specs.Cmp.{IsEquivalence}
 use Rattle.std.proofs.Common.{sym, ◌∙◌, ap, subst, inl, inr, arith}
 use Rattle.std.proofs.lemmas.Map.Made.{length-le_from_is_member}
+use Rattle.std.proofs.lemmas.Bool.{and_parts, or_parts, or_right, and_from, or_left, eqb-true, or_cases, both_ways}
+use Rattle.ax_address.proofs.SameNumbers.{nat_refl}
 use Rattle.circuit_set.specs.Books.{Book, Fresh, HeardNote, SentNote, empty, first_place, heard_number, heard_sending, is_heard, latest_to, with_event, overtakers, overtakes}
 use Rattle.circuit_table.specs.Events.{Event, Name, same_name}
 use Rattle.circuit_set.specs.Signs.{AreOvertakers}
@@ -11,7 +13,7 @@ use Rattle.circuit_table.specs.Sets.{CircuitTold, Made, Sent, Heeded, Notice, Go
 use Rattle.circuit_set.specs.TooLate.{Overtaker, Overtakes, same_overtaker}
 use Rattle.circuit_set.proofs.Among.{by_snoc}
 use Rattle.circuit_set.proofs.Bridge.{name_itself, same_names}
-use Rattle.circuit_set.proofs.Noted.{book, book_more, both_so, both_true, marked, marks, nat_itself, nat_same, neither, not_both, or_cases, or_so, or_then}
+use Rattle.circuit_set.proofs.Noted.{book, book_more, marked, marks}
 use Rattle.circuit_set.proofs.Overtaken.{first_noted, first_told, heard_marks}
 
 -- ---- when two are one ----
@@ -19,16 +21,16 @@ over_so : (a b : Overtaker) → a.by ≡ b.by → a.number ≡ b.number → a �
 over_so a b e f = rw (e, f) refl
 
 over_is : (a b : Overtaker) → same_overtaker a b ≡ true → a ≡ b
-over_is a b e = let two = both_true (same_name b.by a.by) (nat_eq a.number b.number) e in over_so a b (sym (same_names b.by a.by two.0)) (nat_same a.number b.number two.1)
+over_is a b e = let two = and_parts (same_name b.by a.by) (nat_eq a.number b.number) e in over_so a b (sym (same_names b.by a.by two.0)) (eqb-true a.number b.number two.1)
 
 over_itself : (a : Overtaker) → same_overtaker a a ≡ true
-over_itself a = both_so (same_name a.by a.by) (nat_eq a.number a.number) (name_itself a.by) (nat_itself a.number)
+over_itself a = and_from (same_name a.by a.by) (nat_eq a.number a.number) (name_itself a.by) (nat_refl a.number)
 
 over_turned : (a b : Overtaker) → (c d : Bool) → same_overtaker a b ≡ c → same_overtaker b a ≡ d → c ≡ d
 over_turned a b true true e f = refl
 over_turned a b false false e f = refl
-over_turned a b true false e f = absurd (not_both (same_overtaker b a) f (subst (λ k. same_overtaker k a ≡ true) (over_is a b e) (over_itself a)))
-over_turned a b false true e f = absurd (not_both (same_overtaker a b) e (subst (λ k. same_overtaker k b ≡ true) (over_is b a f) (over_itself b)))
+over_turned a b true false e f = absurd (both_ways (same_overtaker b a) f (subst (λ k. same_overtaker k a ≡ true) (over_is a b e) (over_itself a)))
+over_turned a b false true e f = absurd (both_ways (same_overtaker a b) e (subst (λ k. same_overtaker k b ≡ true) (over_is b a f) (over_itself b)))
 
 overs_same : IsEquivalence same_overtaker
 overs_same = record {
@@ -63,7 +65,7 @@ Once (h ∷ hs) = Apart (as_over h) hs × Once hs
 
 unheard_apart : (x : Name) (n : ℕ) (hs : List HeardNote) → is_heard x n hs ≡ false → Apart (record { by = x; number = n }) hs
 unheard_apart x n [] e = tt
-unheard_apart x n (h ∷ hs) e = let two = neither (same_name h.who x && nat_eq n h.number) (is_heard x n hs) e in (two.0, unheard_apart x n hs two.1)
+unheard_apart x n (h ∷ hs) e = let two = or_parts (same_name h.who x && nat_eq n h.number) (is_heard x n hs) e in (two.0, unheard_apart x n hs two.1)
 
 once_case : (x : Name) (n : ℕ) (hs : List HeardNote) → Once hs → (b : Bool) → is_heard x n hs ≡ b → Once (if b then hs else record { who = x; number = n } ∷ hs)
 once_case x n hs o true e = o
@@ -113,7 +115,7 @@ module _ (y x : Name) (i : ℕ) (ss : List SentNote) where
 
   -- ---- which they are ----
   member_case : (q : Overtaker) (b : Bool) (o : Overtaker) (os : List Overtaker) → list_any (same_overtaker q) os ≡ true → list_any (same_overtaker q) (if b then o ∷ os else os) ≡ true
-  member_case q true o os e = or_then (same_overtaker q o) (list_any (same_overtaker q) os) e
+  member_case q true o os e = or_right (same_overtaker q o) (list_any (same_overtaker q) os) e
   member_case q false o os e = e
 
   is_counted : (q : Overtaker) (hs : List HeardNote) → is_heard q.by q.number hs ≡ true → overtakes y x i ss (record { who = q.by; number = q.number }) ≡ true → list_any (same_overtaker q) (counted y x i ss hs) ≡ true
@@ -121,7 +123,7 @@ module _ (y x : Name) (i : ℕ) (ss : List SentNote) where
   is_counted q (k ∷ hs) h o = elim (or_cases (same_name k.who q.by && nat_eq q.number k.number) (is_heard q.by q.number hs) h) [
     | inl e ↦ (let same : q ≡ as_over k = over_is q (as_over k) e in
         let yes : overtakes y x i ss k ≡ true = subst (λ (p : Overtaker). overtakes y x i ss (record { who = p.by; number = p.number }) ≡ true) same o in
-        ap (λ b. list_any (same_overtaker q) (if b then as_over k ∷ counted y x i ss hs else counted y x i ss hs)) yes ∙ or_so (same_overtaker q (as_over k)) _ e)
+        ap (λ b. list_any (same_overtaker q) (if b then as_over k ∷ counted y x i ss hs else counted y x i ss hs)) yes ∙ or_left (same_overtaker q (as_over k)) _ e)
     | inr e ↦ member_case q (overtakes y x i ss k) (as_over k) (counted y x i ss hs) (is_counted q hs e o)
   ]
 
@@ -134,8 +136,8 @@ module _ (y x : Name) (i : ℕ) (ss : List SentNote) where
   all_counted P whole [] into so = tt
   all_counted P whole (h ∷ hs) into so =
       all_case P (overtakes y x i ss h) (as_over h) (counted y x i ss hs)
-      (λ o. so h (into h.who h.number (or_so (same_name h.who h.who && nat_eq h.number h.number) (is_heard h.who h.number hs) (both_so _ (nat_eq h.number h.number) (name_itself h.who) (nat_itself h.number)))) o)
-      (all_counted P whole hs (λ z n e. into z n (or_then (same_name h.who z && nat_eq n h.number) (is_heard z n hs) e)) so)
+      (λ o. so h (into h.who h.number (or_left (same_name h.who h.who && nat_eq h.number h.number) (is_heard h.who h.number hs) (and_from _ (nat_eq h.number h.number) (name_itself h.who) (nat_refl h.number)))) o)
+      (all_counted P whole hs (λ z n e. into z n (or_right (same_name h.who z && nat_eq n h.number) (is_heard z n hs) e)) so)
 
 of_all : (P : Overtaker → Type 0) (os : List Overtaker) (q : Overtaker) → AllByRecursion P os → list_any (same_overtaker q) os ≡ true → P q
 of_all P [] q a e = absurd (cc e)
@@ -161,17 +163,17 @@ module _ (x y : Name) (upto since : List Event) (fresh : Fresh empty (upto ++ si
 
   overtaken : (o : Overtaker) → Overtakes x y upto since o → overtakes y x i (book all).sent (record { who = o.by; number = o.number }) ≡ true
   overtaken o k = elim k.sent [
-    | inl f ↦ or_so (same_name o.by x && nat_lt i (first_place y o.number (book all).sent)) _
-        (both_so (same_name o.by x) _ (subst (λ z. same_name o.by z ≡ true) f.0 (name_itself o.by)) (first_noted y o.number upto since fresh i size f.1))
-    | inr f ↦ or_then (same_name o.by x && nat_lt i (first_place y o.number (book all).sent)) _
-        (both_so (same_name o.by y) _ (subst (λ z. same_name o.by z ≡ true) f.0 (name_itself o.by)) (first_noted x o.number upto since fresh i size f.1))
+    | inl f ↦ or_left (same_name o.by x && nat_lt i (first_place y o.number (book all).sent)) _
+        (and_from (same_name o.by x) _ (subst (λ z. same_name o.by z ≡ true) f.0 (name_itself o.by)) (first_noted y o.number upto since fresh i size f.1))
+    | inr f ↦ or_right (same_name o.by x && nat_lt i (first_place y o.number (book all).sent)) _
+        (and_from (same_name o.by y) _ (subst (λ z. same_name o.by z ≡ true) f.0 (name_itself o.by)) (first_noted x o.number upto since fresh i size f.1))
   ]
 
   overtaking : (h : HeardNote) → is_heard h.who h.number (book all).heard ≡ true → overtakes y x i (book all).sent h ≡ true → Overtakes x y upto since (as_over h)
   overtaking h e o = record {
     sent = elim (or_cases (same_name h.who x && nat_lt i (first_place y h.number (book all).sent)) (same_name h.who y && nat_lt i (first_place x h.number (book all).sent)) o) [
-      | inl f ↦ (let two = both_true (same_name h.who x) (nat_lt i (first_place y h.number (book all).sent)) f in inl (same_names h.who x two.0, first_told y h.number upto since fresh i size two.1))
-      | inr f ↦ (let two = both_true (same_name h.who y) (nat_lt i (first_place x h.number (book all).sent)) f in inr (same_names h.who y two.0, first_told x h.number upto since fresh i size two.1))
+      | inl f ↦ (let two = and_parts (same_name h.who x) (nat_lt i (first_place y h.number (book all).sent)) f in inl (same_names h.who x two.0, first_told y h.number upto since fresh i size two.1))
+      | inr f ↦ (let two = and_parts (same_name h.who y) (nat_lt i (first_place x h.number (book all).sent)) f in inr (same_names h.who y two.0, first_told x h.number upto since fresh i size two.1))
     ];
     heeded = marks (heard_marks h.who h.number) all fresh e;
   }

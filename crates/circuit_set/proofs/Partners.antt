@@ -6,6 +6,7 @@ use Rattle.circuit_set.specs.Books.{MadeNote, first_name, is_some_name, partner_
 use Rattle.circuit_table.specs.Events.{Name, same_name}
 use Rattle.circuit_set.proofs.Bridge.{same_names}
 use Rattle.circuit_set.proofs.Fair.{InMade}
+use Rattle.circuit_set.proofs.NewName.{some_is}
 
 pub of_made : (P : MadeNote → Type 0) (ms : List MadeNote) (m : MadeNote) → AllByRecursion P ms → InMade m ms → P m
 of_made P [] m a i = absurd i
@@ -20,10 +21,6 @@ pub record Partner (ms : List MadeNote) (x z : Name) : Type 0 where
 
 partner_later : (m : MadeNote) (ms : List MadeNote) (x z : Name) → Partner ms x z → Partner (m ∷ ms) x z
 partner_later m ms x z p = record { note = p.note; inside = inr p.inside; which = p.which }
-
-some_is : (o : Option Name) (x : Name) → is_some_name o x ≡ true → o ≡ Some x
-some_is None x e = cc
-some_is (Some y) x e = ap (λ w. Some w) (same_names y x e)
 
 own_case : (m : MadeNote) (ms : List MadeNote) (x z : Name) (o : Option Name) (b : Bool) → m.partner ≡ o → same_name m.who x ≡ b → first_name (if b then o else None) (partner_in ms x) ≡ Some z
     → (partner_in ms x ≡ Some z → Partner ms x z) → Partner (m ∷ ms) x z

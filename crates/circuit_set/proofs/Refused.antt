@@ -1,6 +1,7 @@
 -- A refusal, which no end sends, changes no end and no circuit.
-use Rattle.std.specs.Prelude.{◌≡◌, ℕ, suc, ◌<◌, ◌⊎◌, Bool, true, false, ◌&&◌, ◌||◌, if◌then◌else◌, List, ◌∷◌, slice_get, Some, None, refl}
+use Rattle.std.specs.Prelude.{◌≡◌, ℕ, suc, ◌<◌, ◌⊎◌, true, ◌||◌, if◌then◌else◌, List, ◌∷◌, slice_get, Some, None, refl}
 use Rattle.std.proofs.Common.{sym, ◌∙◌, ap, subst, inl, inr, arith}
+use Rattle.std.proofs.Math.Bool.{and-false}
 use Rattle.circuit_l4.specs.declared.transport.Transport.{Transport}
 use Rattle.circuit_l4.specs.State.{State}
 use Rattle.circuit_set.specs.Circuits.{PairOk}
@@ -17,10 +18,6 @@ use Rattle.circuit_set.proofs.Lonely.{nobody}
 use Rattle.circuit_set.proofs.Invariant.{AloneOk, CircuitOk, EndInv, Kept, PairInv, Tops, side_of}
 use Rattle.circuit_set.proofs.Moved.{side_is}
 use Rattle.circuit_set.proofs.Asks.{AskOf}
-
-and_none : (a : Bool) → (a && false) ≡ false
-and_none true = refl
-and_none false = refl
 
 module _ (net : Net) (k : Kept net) (n : ℕ) (s : SetState) (t : Transport) (d : List ℕ) (here : slice_get net.sets n ≡ Some s) (spelled : Spelled d t) where
   abbrev x : Name
@@ -48,7 +45,7 @@ module _ (net : Net) (k : Kept net) (n : ℕ) (s : SetState) (t : Transport) (d 
   noted_not P e = let h = k.made x e in let bad : Some h.0 ≡ None = sym h.1 ∙ no_end in cc
 
   sent_is : (z : Name) (i : ℕ) → has z i c.sent ≡ has z i net.book.sent
-  sent_is z i = ap (λ b. b || has z i net.book.sent) (and_none (same_name x z))
+  sent_is z i = ap (λ b. b || has z i net.book.sent) (and-false (same_name x z))
 
   not_end : (z : Name) (j : Holder) → end_at net z ≡ Some j → x ≡ z → ⊥
   not_end z j e same = let bad : Some j ≡ None = sym e ∙ subst (λ w. end_at net w ≡ None) same no_end in cc

@@ -36,10 +36,6 @@ AllLive net = (x : Name) (h : Holder) → end_at net x ≡ Some h → LivesOn ne
 abbrev pub SetsOk : Net → Type 0
 SetsOk net = (n : ℕ) (s : SetState) → slice_get net.sets n ≡ Some s → Numbers s
 
-or_true : (a : Bool) → (a || true) ≡ true
-or_true true = refl
-or_true false = refl
-
 module _ (net : Net) (sets : SetsOk net) (live : AllLive net) (n : ℕ) (s : SetState) (here : slice_get net.sets n ≡ Some s) where
   abbrev After : SetDone → Net
   After done = record { sets = slice_set net.sets n done.set; book = with_events net.book (events_at n s.own done.told) }

@@ -1,7 +1,8 @@
 -- Where no node starts again and none gives a pair twice, a copy of a connect request alone can break Fresh.
-use Rattle.std.specs.Prelude.{◌≡◌, ℕ, zero, suc, ◌<◌, Bool, true, false, ◌&&◌, ◌||◌, if◌then◌else◌, List, [], ◌∷◌, ◌++◌, length, get_or, slice_get, Option, Some, None, refl}
+use Rattle.std.specs.Prelude.{◌≡◌, ℕ, zero, suc, ◌<◌, true, ◌&&◌, ◌||◌, if◌then◌else◌, List, [], ◌∷◌, ◌++◌, length, get_or, slice_get, Option, Some, None, refl}
 use Rattle.std.specs.List.{AllByRecursion}
 use Rattle.std.proofs.Common.{sym, ◌∙◌, ap, subst, inl, inr, arith, append_assoc, append-nil}
+use Rattle.std.proofs.Math.Bool.{or-true}
 use Rattle.ax_address.specs.Callsign.{Callsign}
 use Rattle.circuit_l4.specs.declared.pair.Pair.{Pair}
 use Rattle.circuit_l4.specs.declared.role.Role.{Role}
@@ -43,17 +44,13 @@ none_made (Restarted pair ∷ ts) b lost n own e = (inl tt, none_made ts _ _ n o
 none_made (Lost id facts ∷ ts) b lost n own e = (inl tt, none_made ts _ _ n own e)
 
 -- ---- what was sent ----
-or_true : (a : Bool) → (a || true) ≡ true
-or_true true = refl
-or_true false = refl
-
 -- what was sent stays so
 still_sent : (b : Book) (e : Event) (x : Name) (d : List ℕ) → has_sent b.sent x d ≡ true → has_sent (with_event b e).sent x d ≡ true
 still_sent b e x d h = by e.told
   where
     by : (t : CircuitTold) → has_sent (with_event b (record { node = e.node; own = e.own; told = t })).sent x d ≡ true
     by (Made id pair at request) = h
-    by (Sent id number s) = ap (λ v. (same_name (record { node = e.node; id = id }) x && is_copy d s) || v) h ∙ or_true (same_name (record { node = e.node; id = id }) x && is_copy d s)
+    by (Sent id number s) = ap (λ v. (same_name (record { node = e.node; id = id }) x && is_copy d s) || v) h ∙ or-true (same_name (record { node = e.node; id = id }) x && is_copy d s)
     by (Heeded id s) = h
     by (Notice id m) = h
     by (Gone id facts) = h

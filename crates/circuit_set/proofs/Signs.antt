@@ -1,6 +1,7 @@
 -- By what it shows that something comes too late: by the book and by the events.
 use Rattle.std.specs.Prelude.{◌≡◌, ◌≢◌, ℕ, suc, ◌+◌, Bool, true, false, List, [], ◌∷◌, ◌++◌, length, Contains, Option, Some, None, refl}
 use Rattle.std.proofs.Common.{sym, ◌∙◌, ap, subst, inl, inr, append_assoc, length-append, arith}
+use Rattle.std.proofs.lemmas.Bool.{both_ways}
 use Rattle.circuit_l4.specs.declared.pair.Pair.{Pair}
 use Rattle.circuit_set.specs.Books.{Fresh, MadeNote, SentNote, any_ends, empty, is_lost, latest_by, latest_in, lost_in, overtakers, partner_in, was_asked}
 use Rattle.circuit_set.specs.ByBook.{HeldByBook, OvertakenByBook, TooManyByBook, UnaskedByBook, UnsentByBook}
@@ -11,7 +12,7 @@ use Rattle.circuit_set.specs.TooLate.{AllowsByWindow, Gives, Has, OpenedWith, Se
 use Rattle.circuit_set.proofs.Among.{has_so}
 use Rattle.circuit_set.proofs.ByBook.{by_itself, by_partner, open_end}
 use Rattle.circuit_set.proofs.Joined.{asked_marks, is_free, partner_looks, requests}
-use Rattle.circuit_set.proofs.Noted.{book, finds, found, marked, marks, none_found, not_both}
+use Rattle.circuit_set.proofs.Noted.{book, finds, found, marked, marks, none_found}
 use Rattle.circuit_set.proofs.Notes.{MadeAt, in_notes, made_at}
 use Rattle.circuit_set.proofs.Opened.{opened_with, opens_with}
 use Rattle.circuit_set.proofs.Overtakers.{are_as_many, they_are, told}
@@ -76,7 +77,7 @@ module _ (events : List Event) (fresh : Fresh empty events) where
     asking_many h (Some w) e =
         inl (record {
           opened = y;
-          which = inr ((λ p. not_both (was_asked (book events).made x) h (marked (asked_marks x) events fresh p)), refl);
+          which = inr ((λ p. both_ways (was_asked (book events).made x) h (marked (asked_marks x) events fresh p)), refl);
           window = w;
           told = opened_with y events fresh w e;
           is = by_partner events fresh x y joined 0 h ∙ ap allowance e;
@@ -84,7 +85,7 @@ module _ (events : List Event) (fresh : Fresh empty events) where
     asking_many h None e =
         inr (
           (λ m a. elim a.which [
-            | inl p ↦ not_both (was_asked (book events).made x) h (marked (asked_marks x) events fresh p.0)
+            | inl p ↦ both_ways (was_asked (book events).made x) h (marked (asked_marks x) events fresh p.0)
             | inr p ↦ (let seen : None ≡ Some a.window = sym e ∙ opens_with y events fresh a.window (subst (λ z. OpenedWith events z a.window) p.1 a.told) in cc seen)
           ]),
           by_partner events fresh x y joined 0 h ∙ ap allowance e,

@@ -1,7 +1,10 @@
 -- Which end a pair was given to, and which sending is the latest: by the book and by the events.
 use Rattle.std.specs.Prelude.{◌≡◌, ℕ, suc, ◌+◌, ◌⊎◌, Bool, true, false, ◌&&◌, if◌then◌else◌, List, [], ◌∷◌, ◌++◌, length, Option, Some, None, refl}
 use Rattle.std.proofs.Common.{sym, ◌∙◌, ap, subst, inl, inr, arith, length-append}
+use Rattle.std.proofs.lemmas.Bool.{and_parts, and_from, or_left, eqb-true, both_ways}
 use Rattle.ax_address.specs.Callsign.{Callsign, same_call}
+use Rattle.ax_address.proofs.SameCalls.{same_call-true, call_refl}
+use Rattle.ax_address.proofs.SameNumbers.{nat_refl}
 use Rattle.circuit_l4.specs.declared.pair.Pair.{Pair}
 use Rattle.circuit_l4.specs.declared.notice.EndNotice.{EndNotice}
 use Rattle.circuit_set.specs.TooLate.{Last, Gives, LatestSending, Loses, SendsCopy, SendsFragment, Tells}
@@ -10,8 +13,8 @@ use Rattle.circuit_table.specs.Events.{Event, Name, is_copy, same_name}
 use Rattle.circuit_table.specs.Sets.{CircuitTold, Made, Sent, Heeded, Notice, Gone, Restarted, Lost, same_pair}
 use Rattle.circuit_set.proofs.Among.{by_snoc, last_so}
 use Rattle.circuit_set.proofs.Bridge.{same_names}
-use Rattle.circuit_set.proofs.Copies.{same_calls}
-use Rattle.circuit_set.proofs.Noted.{LooksUp, Marks, book, book_more, both_so, both_true, call_itself, lost_more, name_true, named, names_so, nat_itself, nat_same, not_both, or_none, or_so, pair_itself, pairs_same}
+use Rattle.circuit_set.proofs.Noted.{LooksUp, Marks, book, book_more, lost_more, name_true, named, names_so, or_none, pairs_same}
+use Rattle.circuit_set.proofs.Askers.{pair_itself}
 
 -- ---- places ----
 one_place : (b : Book) (e : Event) → (with_event b e).places ≡ suc b.places
@@ -47,14 +50,14 @@ module _ (own : Callsign) (pair : Pair) where
 
   made_case : (b : Book) (node : ℕ) (call : Callsign) (id : ℕ) (p : Pair) (at : Callsign) (r : Option (List ℕ)) (c : Bool) → (same_call call own && same_pair p pair) ≡ c → Given b (record { node = node; own = call; told = Made id p at r })
   made_case b node call id p at r true h =
-      let two = both_true (same_call call own) (same_pair p pair) h in
+      let two = and_parts (same_call call own) (same_pair p pair) h in
       let to : (let t : CircuitTold = Made id p at r in t) ≡ Made id pair at r = ap (λ q. Made id q at r) (pairs_same p pair two.1) in
-      inl (named node id, (same_calls call own two.0, at, r, (refl, to)), ap (λ k. if k then Some (named node id) else made_last b.made own pair) h)
+      inl (named node id, (same_call-true call own two.0, at, r, (refl, to)), ap (λ k. if k then Some (named node id) else made_last b.made own pair) h)
   made_case b node call id p at r false h =
       inr (
         (λ x g. (let same : p ≡ pair = cc (g.3.1) in
-            not_both (same_call call own && same_pair p pair) h
-            (both_so (same_call call own) (same_pair p pair) (subst (λ k. same_call call k ≡ true) g.0 (call_itself call)) (subst (λ k. same_pair p k ≡ true) same (pair_itself p))))),
+            both_ways (same_call call own && same_pair p pair) h
+            (and_from (same_call call own) (same_pair p pair) (subst (λ k. same_call call k ≡ true) g.0 (call_refl call)) (subst (λ k. same_pair p k ≡ true) same (pair_itself p))))),
         ap (λ k. if k then Some (named node id) else made_last b.made own pair) h,
       )
 
@@ -98,7 +101,7 @@ module _ (y : Name) (d : List ℕ) where
   sent_case : (b : Book) (es : List Event) → b.places ≡ length es → (node : ℕ) (own : Callsign) (id : ℕ) (number : Option ℕ) (sent : List ℕ) (c : Bool) → (same_name (record { node = node; id = id }) y && is_copy d sent) ≡ c
       → Latest b es (record { node = node; own = own; told = Sent id number sent })
   sent_case b es places node own id number sent true h =
-      let two = both_true (same_name (record { node = node; id = id }) y) (is_copy d sent) h in
+      let two = and_parts (same_name (record { node = node; id = id }) y) (is_copy d sent) h in
       let s : SentNote = record { who = record { node = node; id = id }; place = b.places; number = number; datagram = sent } in
       let is : (let x : Name = record { node = node; id = id } in x) ≡ y = same_names (record { node = node; id = id }) y two.0 in
       inl (
@@ -110,8 +113,8 @@ module _ (y : Name) (d : List ℕ) where
       let s : SentNote = record { who = record { node = node; id = id }; place = b.places; number = number; datagram = sent } in
       inr (
         (λ t n. (let told = n.told.1 in let i : id ≡ y.id = cc told in let same : t.datagram ≡ sent = cc (sym told) in
-            not_both (same_name (record { node = node; id = id }) y && is_copy d sent) h
-            (both_so (same_name (record { node = node; id = id }) y) (is_copy d sent) (name_true node id y n.told.0 i) (subst (λ k. is_copy d k ≡ true) same n.copy)))),
+            both_ways (same_name (record { node = node; id = id }) y && is_copy d sent) h
+            (and_from (same_name (record { node = node; id = id }) y) (is_copy d sent) (name_true node id y n.told.0 i) (subst (λ k. is_copy d k ≡ true) same n.copy)))),
         ap (λ k. if k then Some s else latest_in b.sent y d) h,
       )
 
@@ -162,14 +165,14 @@ module _ (x : Name) (d : List ℕ) where
   has_case : (b : Book) (node : ℕ) (own : Callsign) (id : ℕ) (number : Option ℕ) (sent : List ℕ) (c : Bool) → (same_name (record { node = node; id = id }) x && is_copy d sent) ≡ c
       → SentTurn b (record { node = node; own = own; told = Sent id number sent })
   has_case b node own id number sent true h =
-      let two = both_true (same_name (record { node = node; id = id }) x) (is_copy d sent) h in
+      let two = and_parts (same_name (record { node = node; id = id }) x) (is_copy d sent) h in
       let is : (let z : Name = record { node = node; id = id } in z) ≡ x = same_names (record { node = node; id = id }) x two.0 in
-      inl ((number, (sent, (ap (λ (z : Name). z.node) is, ap (λ (z : Name). Sent z.id number sent) is), two.1)), or_so _ (has_sent b.sent x d) h)
+      inl ((number, (sent, (ap (λ (z : Name). z.node) is, ap (λ (z : Name). Sent z.id number sent) is), two.1)), or_left _ (has_sent b.sent x d) h)
   has_case b node own id number sent false h =
       inr (
         (λ c. (let told = c.1.1.1 in let i : id ≡ x.id = cc told in let same : c.1.0 ≡ sent = cc (sym told) in
-            not_both (same_name (record { node = node; id = id }) x && is_copy d sent) h
-            (both_so (same_name (record { node = node; id = id }) x) (is_copy d sent) (name_true node id x c.1.1.0 i) (subst (λ k. is_copy d k ≡ true) same c.1.2)))),
+            both_ways (same_name (record { node = node; id = id }) x && is_copy d sent) h
+            (and_from (same_name (record { node = node; id = id }) x) (is_copy d sent) (name_true node id x c.1.1.0 i) (subst (λ k. is_copy d k ≡ true) same c.1.2)))),
         or_none _ (has_sent b.sent x d) h,
       )
 
@@ -197,7 +200,7 @@ module _ (x : Name) (d : List ℕ) where
 -- ---- which fragments were sent ----
 number_is : (o : Option ℕ) (n : ℕ) → is_number o n ≡ true → o ≡ Some n
 number_is None n h = absurd (cc h)
-number_is (Some m) n h = ap (λ k. Some k) (nat_same m n h)
+number_is (Some m) n h = ap (λ k. Some k) (eqb-true m n h)
 
 module _ (x : Name) (n : ℕ) where
   abbrev FragmentTurn : Book → Event → Type 0
@@ -206,15 +209,15 @@ module _ (x : Name) (n : ℕ) where
   fragment_case : (b : Book) (node : ℕ) (own : Callsign) (id : ℕ) (number : Option ℕ) (sent : List ℕ) (c : Bool) → (same_name (record { node = node; id = id }) x && is_number number n) ≡ c
       → FragmentTurn b (record { node = node; own = own; told = Sent id number sent })
   fragment_case b node own id number sent true h =
-      let two = both_true (same_name (record { node = node; id = id }) x) (is_number number n) h in
+      let two = and_parts (same_name (record { node = node; id = id }) x) (is_number number n) h in
       let is : (let z : Name = record { node = node; id = id } in z) ≡ x = same_names (record { node = node; id = id }) x two.0 in
       let told : (let t : CircuitTold = Sent id number sent in t) ≡ Sent x.id (Some n) sent = ap (λ (z : Name). Sent z.id number sent) is ∙ ap (λ o. Sent x.id o sent) (number_is number n two.1) in
-      inl ((sent, (ap (λ (z : Name). z.node) is, told)), or_so _ (has x n b.sent) h)
+      inl ((sent, (ap (λ (z : Name). z.node) is, told)), or_left _ (has x n b.sent) h)
   fragment_case b node own id number sent false h =
       inr (
         (λ c. (let told = c.1.1 in let i : id ≡ x.id = cc told in let same : Some n ≡ number = cc (sym told) in
-            not_both (same_name (record { node = node; id = id }) x && is_number number n) h
-            (both_so (same_name (record { node = node; id = id }) x) (is_number number n) (name_true node id x c.1.0 i) (subst (λ k. is_number k n ≡ true) same (nat_itself n))))),
+            both_ways (same_name (record { node = node; id = id }) x && is_number number n) h
+            (and_from (same_name (record { node = node; id = id }) x) (is_number number n) (name_true node id x c.1.0 i) (subst (λ k. is_number k n ≡ true) same (nat_refl n))))),
         or_none _ (has x n b.sent) h,
       )
 
@@ -259,8 +262,8 @@ module _ (x : Name) where
           at : (c : Bool) → same_name (record { node = e.node; id = id }) x ≡ c → LossTurn lost (record { node = e.node; own = e.own; told = Lost id facts })
           at true h =
               let is : (let z : Name = record { node = e.node; id = id } in z) ≡ x = same_names (record { node = e.node; id = id }) x h in
-              inl ((facts, (ap (λ (z : Name). z.node) is, ap (λ (z : Name). Lost z.id facts) is)), or_so _ (is_lost lost x) h)
-          at false h = inr ((λ c. (let i : id ≡ x.id = cc (c.1.1) in not_both _ h (name_true e.node id x c.1.0 i))), or_none _ (is_lost lost x) h)
+              inl ((facts, (ap (λ (z : Name). z.node) is, ap (λ (z : Name). Lost z.id facts) is)), or_left _ (is_lost lost x) h)
+          at false h = inr ((λ c. (let i : id ≡ x.id = cc (c.1.1) in both_ways _ h (name_true e.node id x c.1.0 i))), or_none _ (is_lost lost x) h)
 
   pub loss_marks : Marks (λ es. is_lost (lost_in [] es) x) (λ p e. Loses x e)
   loss_marks = record {

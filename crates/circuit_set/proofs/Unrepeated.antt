@@ -3,6 +3,7 @@ use Rattle.std.specs.Prelude.{◌≡◌, ◌≢◌, ℕ, Bool, true, false, nat_
 use Rattle.std.specs.List.{AllByRecursion}
 use Rattle.std.proofs.Common.{sym, ◌∙◌, ap, subst, arith, append_assoc, append-nil}
 use Rattle.std.proofs.lemmas.Bool.Decides.{nat_tests}
+use Rattle.radio_base.proofs.Each.{each_map}
 use Rattle.ax_address.specs.Callsign.{Callsign}
 use Rattle.circuit_l4.specs.declared.pair.Pair.{Pair}
 use Rattle.circuit_l4.specs.declared.notice.EndNotice.{EndNotice}
@@ -14,10 +15,6 @@ use Rattle.circuit_table.specs.Sets.{Made, Sent, Heeded, Notice, Gone, Restarted
 use Rattle.circuit_set.proofs.Differing.{Distinct, In, apart_of, given, given_append, in_first, in_here}
 
 -- ---- what holds of each note ----
-pub each : {A : Type 0} (P Q : A → Type 0) → ((x : A) → P x → Q x) → (xs : List A) → AllByRecursion P xs → AllByRecursion Q xs
-each P Q f [] a = tt
-each P Q f (x ∷ xs) a = (f x a.0, each P Q f xs a.1)
-
 head_noticed : (P : MadeNote → Type 0) → ((m : MadeNote) (ts : List EndNotice) → P m → P (record m { told = ts })) → (n : EndNotice) (m : MadeNote) (b : Bool) → P m → P (if b then record m { told = m.told ++ n ∷ [] } else m)
 head_noticed P keep n m true p = keep m (m.told ++ n ∷ []) p
 head_noticed P keep n m false p = p
@@ -57,7 +54,7 @@ given_one n own id pair at request es =
 
 more_given : (es more : List Event) (ms : List MadeNote) → AreGiven es ms → AreGiven (es ++ more) ms
 more_given es more ms a =
-    each (λ (m : MadeNote). In m.pair (given m.who.node es)) (λ (m : MadeNote). In m.pair (given m.who.node (es ++ more)))
+    each_map (λ (m : MadeNote). In m.pair (given m.who.node es)) (λ (m : MadeNote). In m.pair (given m.who.node (es ++ more)))
     (λ m i. subst (In m.pair) (sym (given_append m.who.node es more)) (in_first m.pair (given m.who.node es) (given m.who.node more) i)) ms a
 
 -- a pair that is told is none of before
@@ -67,7 +64,7 @@ new_far es post n own id pair at request ms all a =
     let e : Event = record { node = n; own = own; told = Made id pair at request } in
     let parts : given n (es ++ e ∷ post) ≡ given n es ++ pair ∷ given n post = given_append n es (e ∷ post) ∙ ap (λ ps. given n es ++ ps) (given_one n own id pair at request post) in
     let d : Distinct (given n es ++ pair ∷ given n post) = subst Distinct parts (all n) in
-    each (λ (m : MadeNote). In m.pair (given m.who.node es)) (λ (m : MadeNote). m.who.node ≡ n → m.pair ≢ pair)
+    each_map (λ (m : MadeNote). In m.pair (given m.who.node es)) (λ (m : MadeNote). m.who.node ≡ n → m.pair ≢ pair)
     (λ m i here. apart_of (given n es) (given n post) pair m.pair d (subst (λ k. In m.pair (given k es)) here i)) ms a
 
 abbrev pub Differ : List Event → Book → Type 0

@@ -1,6 +1,7 @@
 -- What an end was told since it was made: by the book and by the events.
 use Rattle.std.specs.Prelude.{◌≡◌, ℕ, ◌⊎◌, Bool, true, false, if◌then◌else◌, List, [], ◌∷◌, ◌++◌, Option, refl}
 use Rattle.std.proofs.Common.{sym, ◌∙◌, ap, subst, inl, inr, append_assoc, append-nil}
+use Rattle.std.proofs.lemmas.Bool.{or_left, both_ways}
 use Rattle.ax_address.specs.Callsign.{Callsign}
 use Rattle.circuit_l4.specs.declared.pair.Pair.{Pair}
 use Rattle.circuit_l4.specs.declared.notice.EndNotice.{EndNotice}
@@ -13,7 +14,7 @@ use Rattle.circuit_table.specs.Sets.{CircuitTold, Made, Sent, Heeded, Notice, Go
 use Rattle.circuit_set.proofs.Among.{by_snoc, has_cases, has_last, has_new, has_nothing, has_old, last_cases, last_new, last_old}
 use Rattle.circuit_set.proofs.Bridge.{name_itself, same_names}
 use Rattle.circuit_set.proofs.Lookups.{has_note, noticed, same_note, unnoticed}
-use Rattle.circuit_set.proofs.Noted.{book, book_more, name_true, not_both, or_none, or_so}
+use Rattle.circuit_set.proofs.Noted.{book, book_more, name_true, or_none}
 
 -- ---- which end was made ----
 module _ (z : Name) where
@@ -31,7 +32,7 @@ module _ (z : Name) where
           of_name true h =
               let is : (let n : Name = record { node = e.node; id = id } in n) ≡ z = same_names (record { node = e.node; id = id }) z h in
               inl (r, (p, at, (ap (λ (n : Name). n.node) is, ap (λ (n : Name). Made n.id p at r) is)))
-          of_name false h = inr (λ q m. (let i : id ≡ z.id = (let w = m.2.1 in cc w) in not_both _ h (name_true e.node id z m.2.0 i)))
+          of_name false h = inr (λ q m. (let i : id ≡ z.id = (let w = m.2.1 in cc w) in both_ways _ h (name_true e.node id z m.2.0 i)))
       by (Sent id number sent) = inr (λ q m. absurd (cc (m.2.1)))
       by (Heeded id k) = inr (λ q m. absurd (cc (m.2.1)))
       by (Notice id k) = inr (λ q m. absurd (cc (m.2.1)))
@@ -73,10 +74,10 @@ module _ (z : Name) where
       → NoteTurn b (record { node = node; own = own; told = Made id p at r })
   made_turn b node own id p at r true h =
       let is : (let n : Name = record { node = node; id = id } in n) ≡ z = same_names (record { node = node; id = id }) z h in
-      inl ((r, (p, at, (ap (λ (n : Name). n.node) is, ap (λ (n : Name). Made n.id p at r) is))), or_so _ (has_note b.made z) h, ap (λ k. if k then [] else told_to b.made z) h)
+      inl ((r, (p, at, (ap (λ (n : Name). n.node) is, ap (λ (n : Name). Made n.id p at r) is))), or_left _ (has_note b.made z) h, ap (λ k. if k then [] else told_to b.made z) h)
   made_turn b node own id p at r false h =
       inr (
-        (λ q m. (let i : id ≡ z.id = (let w = m.2.1 in cc w) in not_both _ h (name_true node id z m.2.0 i))),
+        (λ q m. (let i : id ≡ z.id = (let w = m.2.1 in cc w) in both_ways _ h (name_true node id z m.2.0 i))),
         or_none _ (has_note b.made z) h,
         (λ k. ap (λ t. if t then [] else told_to b.made z) h ∙ sym (append-nil (told_to b.made z))),
       )
@@ -95,7 +96,7 @@ module _ (z : Name) where
       inr (
         (λ q m. absurd (cc (m.2.1))),
         same_note w z n b.made,
-        (λ k. unnoticed w z n b.made (λ same. not_both (same_name w z) h (subst (λ y. same_name w y ≡ true) same (name_itself w)))
+        (λ k. unnoticed w z n b.made (λ same. both_ways (same_name w z) h (subst (λ y. same_name w y ≡ true) same (name_itself w)))
             ∙ (sym (append-nil (told_to b.made z)) ∙ ap (λ t. told_to b.made z ++ (if t then n ∷ [] else [])) (sym h))),
       )
 

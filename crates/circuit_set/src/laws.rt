@@ -1,4 +1,5 @@
-//! What is promised of circuits over every schedule, and the parts on which it stands.
+//! What is promised of circuits over every schedule, and the parts on which it stands. Called by `circuit_verdict` and the laws of the
+//! replay.
 ghost use Rattle.std.specs.Prelude.{◌≡◌, ℕ, ◌+◌, ◌*◌, ◌≤◌, ◌<◌, ◌%◌};
 ghost use Rattle.circuit_set.specs.Lines.{Line, Infos, overtakers_since, at_place};
 ghost use Rattle.circuit_set.specs.Laws.{OneCircuitSafe};

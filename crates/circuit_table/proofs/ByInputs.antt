@@ -50,7 +50,7 @@ pub hears_go : HearsGo
 hears_go next_hop now parcel w = by_way now w (way w.set.own next_hop parcel.1)
 
 -- ---- what is untold ----
-abbrev First : SetState → CircuitTold → List CircuitTold → Turned → Type 0
+abbrev pub First : SetState → CircuitTold → List CircuitTold → Turned → Type 0
 First s t rest u = (u.after.set ≡ s) × (u.after.untold ≡ rest) × (of_circuits u.told ≡ t ∷ [])
 
 module _ (next_hop : Callsign → Option Callsign) where
@@ -62,7 +62,7 @@ module _ (next_hop : Callsign → Option Callsign) where
   head_first s t d rest (Err e) = to_first s t d rest None
   head_first s t d rest (Ok head) = to_first s t d rest (next_hop head.dest)
 
-  tells_it : (s : SetState) (t : CircuitTold) (rest : List CircuitTold) → OfEach (First s t rest) (tells_first next_hop s t rest)
+  pub tells_it : (s : SetState) (t : CircuitTold) (rest : List CircuitTold) → OfEach (First s t rest) (tells_first next_hop s t rest)
   tells_it s (Sent id number d) rest = head_first s (Sent id number d) d rest (head_at d)
   tells_it s (Made id pair partner request) rest = (refl, refl, refl)
   tells_it s (Heeded id d) rest = (refl, refl, refl)
@@ -74,7 +74,7 @@ module _ (next_hop : Callsign → Option Callsign) where
 first_goes : (w : Waiting) (t : CircuitTold) (rest : List CircuitTold) (u : Turned) → w.untold ≡ t ∷ rest → First w.set t rest u → TurnGoes w u
 first_goes w t rest u e f = by_none w u.after (of_circuits u.told) f.0 (ap (λ ts. ts ++ u.after.untold) f.2 ∙ ap (λ ts. t ∷ ts) f.1 ∙ sym e)
 
-each_goes : (P Q : Turned → Type 0) → ((u : Turned) → P u → Q u) → (t : Turn) → OfEach P t → OfEach Q t
+pub each_goes : (P Q : Turned → Type 0) → ((u : Turned) → P u → Q u) → (t : Turn) → OfEach P t → OfEach Q t
 each_goes P Q f (Says u) p = f u p
 each_goes P Q f (Offers to d by) p = λ answer. f (by answer) (p answer)
 

@@ -18,7 +18,8 @@ use Rattle.circuit_l4.specs.State.{Effect, State, begin, is_up, Appended, Receip
 use Rattle.circuit_l4.specs.Moves.{acknowledge, acknowledge_by, advance, again, answer, answer_all, wait, wait_if_out, on_state, hold, begin_to_close, end_with, fill, fill_count, finish, with_receiving, note, is_done, is_silent, on_info, on_info_ack, put_out, emit_owed, supply, emit_ack}
 use Rattle.circuit_l4.specs.Table.{common_window, come_up, Input, Write, Arrive, Tick, Close, Take, arrive_in, ask_by, close_in_turn, due_in, expire, note_activity, is_due, may_close, unchoke, resume_by, retry, retry_in, step, step_at, take_from, write_answer, write}
 use Rattle.circuit_reassembly.specs.Fragments.{Answer, More, Whole, Too_long, gather_step}
-use Rattle.circuit_table.proofs.Choices.{Named, either, either_going, names, on_due}
+use Rattle.circuit_l4.proofs.Parts.{either, either_going}
+use Rattle.circuit_table.proofs.Choices.{Named, names, on_due}
 
 -- of an end: its phase, who it is, how many messages were taken at it, and how many fragments it has sent
 pub record Core : Type 0 where

@@ -1,9 +1,10 @@
 -- New ends: their pairs, their numbers, and where they stand.
-use Rattle.std.specs.Prelude.{◌≡◌, ℕ, suc, ◌+◌, min, ◌≤◌, ◌<◌, ◌⊎◌, Bool, true, false, ◌||◌, ◌&&◌, nat_eq, nat_le, nat_lt, if◌then◌else◌, List, [], ◌∷◌, ◌++◌, length, Option, Some, None, refl}
+use Rattle.std.specs.Prelude.{◌≡◌, ℕ, suc, ◌+◌, min, ◌≤◌, ◌<◌, ◌⊎◌, Bool, true, false, ◌||◌, nat_eq, nat_le, nat_lt, if◌then◌else◌, List, [], ◌∷◌, ◌++◌, length, Option, Some, None, refl}
 use Rattle.std.proofs.Common.{sym, ◌∙◌, ap, subst, inl, inr, arith}
 use Rattle.std.proofs.lemmas.Bool.Decides.{nat_tests}
 use Rattle.std.proofs.lemmas.List.{append_assoc, append-nil}
 use Rattle.std.specs.Map.{lookup, set_value}
+use Rattle.std.proofs.lemmas.Bool.{and_parts}
 use Rattle.radio_base.specs.declared.modulus.TheConstants.{COUNT_MAX}
 use Rattle.ax_address.specs.Callsign.{Callsign, same_call}
 use Rattle.circuit_l4.specs.declared.pair.Pair.{Pair}
@@ -246,13 +247,9 @@ responds_gives c c2 k e origin d now window p q id is holds number stands pair =
     subst (λ (y : Effect). Gives (sets.makes_end s origin (Some q) (Some d.items) y) (Some (untold.Event (event.Made id p origin (Some d)))) c2) same gives
 
 -- ---- the Accept again ----
-both_true : (a b : Bool) → (a && b) ≡ true → (a ≡ true) × (b ≡ true)
-both_true true b e = (refl, e)
-both_true false b e = absurd (cc e)
-
 pub same_pairs : (p q : Pair) → sets.same_pair p q ≡ true → p ≡ q
 same_pairs p q e =
-    let both = both_true (nat_eq p.index q.index) (nat_eq p.ident q.ident) e in
+    let both = and_parts (nat_eq p.index q.index) (nat_eq p.ident q.ident) e in
     let i : p.index ≡ q.index = grind (arith, nat_tests) in
     let d : p.ident ≡ q.ident = grind (arith, nat_tests) in
     rw (i, d) refl
@@ -326,7 +323,7 @@ pub requested_again : (c c2 : HeldEnds) (s : SetState) (origin : Callsign) (d : 
     → Gives (sets.after_request s origin d pair window now) r c2
 requested_again c c2 s origin d pair window now id r st f gives =
     let x : Fitting s.own s.ttl (sets.opened_by origin pair) 0 id s.ends = fitting s.own s.ttl (sets.opened_by origin pair) s.number 0 id c.ends.entries s.ends [] st.ends f in
-    some_case (sets.first_open (sets.opened_by origin pair) s.ends) x.h x.first (gives x.h x.end x.held (both_true (sets.asked_with x.h.asked pair) (same_call x.h.at origin) x.passes).0)
+    some_case (sets.first_open (sets.opened_by origin pair) s.ends) x.h x.first (gives x.h x.end x.held (and_parts (sets.asked_with x.h.asked pair) (same_call x.h.at origin) x.passes).0)
   where
     some_case : (o : Option sets.Holder) (h : sets.Holder) → o ≡ Some h → Gives (sets.goes_to s h [] (sets.accept_again h.end)) r c2
         → Gives (elim o as (λ x. sets.SetDone) [ Some h ↦ sets.goes_to s h [] (sets.accept_again h.end) | None ↦ sets.after_new_request s origin d pair window now ]) r c2

@@ -17,8 +17,9 @@ use Rattle.circuit_l4.specs.Moves.{acknowledge, acknowledge_by, advance, again, 
 use Rattle.circuit_l4.specs.Table.{Input, Write, Arrive, Tick, Close, Take, arrive_in, ask_by, close_in_turn, due_in, expire, note_activity, is_due, may_close, unchoke, resume_by, retry, retry_in, step, step_at, take_from, write_answer, write}
 use Rattle.std.proofs.Common.{sym, ap, ◌∙◌}
 use Rattle.circuit_l4.specs.declared.pair.Pair.{Pair}
+use Rattle.circuit_l4.proofs.Parts.{either, either_going}
 use Rattle.circuit_table.specs.Standing.{Met, MetBy, is_connecting}
-use Rattle.circuit_table.proofs.Choices.{either, either_going, on_due}
+use Rattle.circuit_table.proofs.Choices.{on_due}
 
 abbrev MetIn : Pair → Effect → Type 0
 MetIn p g = Met p g.end

@@ -3,10 +3,11 @@ use Rattle.std.specs.Prelude.{◌≡◌, ℕ, Bool, true, false, ◌||◌, nat_e
 use Rattle.std.proofs.Common.{sym, ◌∙◌, ap, subst, cond}
 use Rattle.std.proofs.lemmas.List.{append-nil}
 use Rattle.std.specs.Map.{lookup, set_value}
+use Rattle.std.proofs.lemmas.Bool.{or_parts}
 use Rattle.ax_address.specs.Callsign.{Callsign}
 use Rattle.circuit_l4.specs.State.{Effect, Out, State, inbox}
 use Rattle.circuit_l4.specs.Standing.{IsDrained, EndView, Stands, StandsFor}
-use Rattle.circuit_l4.specs.Table.{Input, Write, Tick, Close, Take, step}
+use Rattle.circuit_l4.specs.Table.{step}
 use Rattle.circuit_l4.specs.Opening.{facts_of}
 use Rattle.circuit_l4.specs.Table as end
 use Rattle.circuit_l4.specs.Halves.{first_or}
@@ -17,7 +18,7 @@ use Rattle.circuit_table.specs.declared.refusal.DiscardRefusal.TheVariants as di
 use Rattle.circuit_table.specs.declared.holder.Holder.{Holder}
 use Rattle.circuit_table.specs.declared.held_ends.HeldEnds.{HeldEnds}
 use Rattle.circuit_table.specs.Sets as sets
-use Rattle.circuit_table.specs.Sets.{Call, Writes, Ticks, Closes, Takes, does_nothing, SetDone, SetState, CircuitTold, after_call, datagram_to, end_of, goes_to, input_of, is_over, notices, sendings, after_effect, told_by, with_end}
+use Rattle.circuit_table.specs.Sets.{Call, does_nothing, SetDone, SetState, CircuitTold, after_call, datagram_to, end_of, goes_to, input_of, is_over, notices, sendings, after_effect, told_by, with_end}
 use Rattle.circuit_table.specs.Standing.{HeldGoes, SameNode, EachStands, HeldStands, Keeps, Rests, MetBy, capped_count, by_write, close_answer, discard_answer, message_at, take_answer, write_answer, if_so, of_holder, sendings_by, untold_of}
 use Rattle.circuit_table.proofs.Choices.{Named}
 use Rattle.circuit_table.proofs.Names.{call_names}
@@ -40,10 +41,6 @@ no_told : (b : Bool) (t : CircuitTold) → if_so b t ≡ [] → b ≡ false
 no_told true t e = absurd (cc e)
 no_told false t e = refl
 
-either_false : (a b : Bool) → (a || b) ≡ false → (a ≡ false) × (b ≡ false)
-either_false true b e = absurd (cc e)
-either_false false b e = (refl, e)
-
 -- of an end of which nothing is untold
 pub record IsQuiet (k : Holder) (g : Effect) : Type 0 where
   pub announced : k.unannounced ≡ false
@@ -52,7 +49,7 @@ pub record IsQuiet (k : Holder) (g : Effect) : Type 0 where
   pub outs : g.outs ≡ []
   pub notes : g.notes ≡ []
 
-no_outs : (own : Callsign) (ttl id : ℕ) (to : Callsign) (os : List Out) → sendings_by own ttl id to os ≡ [] → os ≡ []
+pub no_outs : (own : Callsign) (ttl id : ℕ) (to : Callsign) (os : List Out) → sendings_by own ttl id to os ≡ [] → os ≡ []
 no_outs own ttl id to [] e = refl
 no_outs own ttl id to (o ∷ os) e = absurd (cc e)
 
@@ -65,7 +62,7 @@ quiet own ttl id k g e =
     let all = nothing (if_so k.unannounced (sets.Made id k.pair k.at None) ++ sendings_by own ttl id k.at g.outs ++ notices id g.notes) _ e in
     let two = nothing (if_so k.unannounced (sets.Made id k.pair k.at None) ++ sendings_by own ttl id k.at g.outs) _ (sym all.0) in
     let one = nothing (if_so k.unannounced (sets.Made id k.pair k.at None)) _ (sym two.0) in
-    let last = either_false k.discarded (is_over g.end) (no_told (k.discarded || is_over g.end) _ all.1) in
+    let last = or_parts k.discarded (is_over g.end) (no_told (k.discarded || is_over g.end) _ all.1) in
     record { announced = no_told k.unannounced _ one.0; kept = last.0; stays = last.1; outs = no_outs own ttl id k.at g.outs one.1; notes = no_notes id g.notes two.1 }
 
 module _ (s : SetState) (id : ℕ) (k : Holder) (g : Effect) (e2 : EndView) (n : ℕ) (g2 : Effect) where

@@ -5,7 +5,7 @@ use Rattle.circuit_l4.specs.declared.transport.Transport.TheVariants.{Accept, Re
 use Rattle.circuit_l4.specs.State.{State, Effect, begin}
 use Rattle.circuit_l4.specs.Table.{Input, Arrive, step, common_window, arrive_in, come_up, Write, Tick, Close, Take}
 use Rattle.circuit_table.proofs.Lasting.{lasts}
-use Rattle.circuit_table.proofs.Choices.{names, Named, either_going}
+use Rattle.circuit_table.proofs.Choices.{names, Named}
 use Rattle.std.proofs.Common.{ap}
 use Rattle.radio_base.specs.declared.modulus.TheConstants.{COUNT_MAX}
 use Rattle.circuit_l4.specs.declared.pair.Pair.{Pair}
@@ -13,6 +13,7 @@ use Rattle.circuit_l4.specs.declared.phase.EndPhase.{EndPhase}
 use Rattle.circuit_l4.specs.declared.phase.EndPhase.TheVariants.{Connecting, Up, Closing, Ended}
 use Rattle.circuit_l4.specs.declared.notice.EndNotice.TheVariants.{Opened}
 use Rattle.circuit_l4.specs.Moves.{on_state, begin_to_close, is_done, note}
+use Rattle.circuit_l4.proofs.Parts.{either_going}
 use Rattle.circuit_table.specs.Sets.{Call, Closes, Takes, Ticks, Writes, input_of}
 
 abbrev pub is_accept : Transport → Bool

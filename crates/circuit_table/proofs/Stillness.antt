@@ -3,6 +3,7 @@ use Rattle.std.specs.Prelude.{◌≡◌, ℕ, ◌+◌, ◌≤◌, Bool, true, fa
 use Rattle.std.proofs.Common.{sym, ◌∙◌, ap, subst, cond, inl, inr, arith}
 use Rattle.std.proofs.lemmas.Bool.Decides.{nat_tests}
 use Rattle.std.specs.Map.{lookup, remove_entry, set_value}
+use Rattle.std.proofs.lemmas.List.{nil_from_length}
 use Rattle.indexmap.specs.IndexMap.{insert_entry}
 use Rattle.circuit_l4.specs.Standing.{IsDrained}
 use Rattle.circuit_table.specs.declared.holder.Holder.{Holder}
@@ -18,12 +19,8 @@ none_of : {A : Type 0} (o : Option A) → is_some o ≡ false → o ≡ None
 none_of None e = refl
 none_of (Some x) e = absurd (cc e)
 
-empty_of : {A : Type 0} (xs : List A) → length xs ≡ 0 → xs ≡ []
-empty_of [] e = refl
-empty_of (x ∷ xs) e = absurd (cc e)
-
 pub drained : (k : Holder) → IsStill k → IsDrained k.end
-drained k s = record { outs = empty_of k.end.outs s.0.1; notice = none_of k.end.notice s.1.0 }
+drained k s = record { outs = nil_from_length k.end.outs s.0.1; notice = none_of k.end.notice s.1.0 }
 
 pub quiet : (k : Holder) → IsStill k → IsSilent k true
 quiet k s = λ own ttl id h told keeps. silent own ttl id k h told keeps s.0.0 false (drained k s) (sym (s.1.1 keeps.going.end (stood k.end keeps.going keeps.stands) keeps.taken))

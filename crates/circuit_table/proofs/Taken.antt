@@ -5,9 +5,9 @@ use Rattle.circuit_l4.specs.declared.notice.EndNotice.TheVariants.{FailedOversiz
 use Rattle.circuit_l4.specs.State.{Effect, State, begin, is_up, Appended, busy, without_first, inbox, follow}
 use Rattle.circuit_l4.specs.Moves.{end_with, with_receiving, emit_ack}
 use Rattle.circuit_l4.specs.Table.{Input, Take, resume_by, step, take_from}
+use Rattle.circuit_l4.proofs.Parts.{either_going}
 use Rattle.circuit_table.specs.Standing.{capped_count}
 use Rattle.circuit_table.proofs.Lasting.{lasts, move_on_taken}
-use Rattle.circuit_table.proofs.Choices.{either_going}
 
 abbrev pub IsNoTake : Input → Type 0
 IsNoTake Take = ⊥

@@ -1,8 +1,8 @@
 -- What comes of the router, turn by turn.
-use Rattle.std.specs.Prelude.{◌≡◌, ℕ, ◌-◌, Bool, true, false, not, ◌||◌, if◌then◌else◌, List, [], ◌∷◌, drop, take, length, Option, Some, None, Result, Ok, Err, refl}
+use Rattle.std.specs.Prelude.{◌≡◌, ℕ, ◌-◌, Bool, true, false, not, ◌||◌, if◌then◌else◌, List, [], ◌∷◌, drop, Option, Some, None, Result, Ok, Err, refl}
 use Rattle.std.specs.Option.{option_map}
-use Rattle.std.proofs.Common.{sym, ◌∙◌, ap, subst, arith}
-use Rattle.std.proofs.lemmas.List.{append-nil, length-drop, take_all}
+use Rattle.std.proofs.Common.{sym, ◌∙◌, ap, subst}
+use Rattle.std.proofs.lemmas.List.{append-nil}
 use Rattle.ax_address.specs.Callsign.{Callsign, same_call}
 use Rattle.route_table.specs.Log.{Item}
 use Rattle.route_table.specs.Held.{StandsFor}
@@ -20,7 +20,7 @@ use Rattle.circuit_table.specs.declared.event.SetEvent.{SetEvent}
 use Rattle.circuit_table.specs.declared.event.SetEvent.TheVariants as event
 use Rattle.circuit_table.specs.declared.held_ends.HeldEnds.{HeldEnds}
 use Rattle.circuit_table.specs.Sets as sets
-use Rattle.circuit_table.specs.Sets.{Comes, SetDone, SetState, CircuitTold, after_datagram, read_as, after_transport, set_step, does_nothing}
+use Rattle.circuit_table.specs.Sets.{Comes, SetDone, SetState, CircuitTold, after_datagram, read_as, set_step, does_nothing}
 use Rattle.circuit_table.specs.Pumps.{Of, Turned, at_rest, ends_with, says_nothing, tells_first, tells_on, turn_step, with_done}
 use Rattle.circuit_table.specs.Standing.{Gives, HeldStands, event_told, told_by_end}
 use Rattle.circuit_table.specs.CircuitSets.{Circuits, DoesPump, SetStands}
@@ -79,10 +79,6 @@ headed s origin d now head (Ok x) f from other mine =
 pub handed : (s : SetState) (own origin : Callsign) (d : Datagram) (now : ℕ) → s.own ≡ own → IsFor own origin d → set_step s (Comes d.items now) ≡ read_as s origin d.items (transport_at (drop 15 d.items)) now
 handed s own origin d now same f =
     headed s origin d.items now f.head (head_at d.items) f.read f.from (ap (same_call f.head.origin) same ∙ f.other) (ap (same_call f.head.dest) same ∙ f.mine)
-
--- from this place on
-pub take_rest : (n : ℕ) (xs : List ℕ) → take (length xs - n) (drop n xs) ≡ drop n xs
-take_rest n xs = take_all (length xs - n) (drop n xs) (omega (arith, length-drop n xs))
 
 pub reads : (s : SetState) (own origin : Callsign) (d : Datagram) (now : ℕ) (r : Result Transport TransportRefusal) → s.own ≡ own → IsFor own origin d → r ≡ transport_at (drop 15 d.items)
     → set_step s (Comes d.items now) ≡ read_as s origin d.items r now

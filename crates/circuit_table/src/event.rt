@@ -1,4 +1,4 @@
-//! What a set tells.
+//! What a set tells. Used by `holder`, `pump`, `receiving` and `untold`, and by `node_core`, `circuit_set` and `trace_lines`.
 use ax_address::Call;
 use circuit_l4::{EndFacts, EndNotice, Pair};
 use l3_datagram::{Datagram, Routed};

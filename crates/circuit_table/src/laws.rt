@@ -1,4 +1,5 @@
 //! What a set keeps, and why its telling ends: on these two a node's own bound and its turns rest. The other laws stand in `circuit_set`.
+//! Called by the laws of `circuit_set` and `node_core`.
 ghost use Rattle.circuit_table.specs.Kept.{KeepsItsShare, WindowsAreSmall};
 ghost use Rattle.circuit_table.specs.Pumps.{TellsLess};
 

@@ -1,4 +1,5 @@
-//! What the circuits of a node tell, one thing after another: what they put out, and what comes to them by the router.
+//! What the circuits of a node tell, one thing after another: what they put out, and what comes to them by the router. Called by
+//! `node_core`.
 ghost use Rattle.std.specs.Prelude.{◌≡◌, ◌≤◌, ◌<◌, ◌↔◌, ℕ, None, Some, true, false, if◌then◌else◌, is_some, OnOk, IfOk, IsErr, IsTrue, drop, length};
 ghost use Rattle.circuit_table.specs.SetTurns as turns;
 

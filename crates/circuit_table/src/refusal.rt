@@ -1,4 +1,4 @@
-//! Why a set refuses.
+//! Why a set refuses. Used by `held_ends` and `set`, and by `node_core` and `circuit_set`.
 use circuit_l4::WriteRefusal;
 
 /// Why no circuit is asked for.

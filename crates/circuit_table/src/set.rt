@@ -1,4 +1,4 @@
-//! The circuits of a node.
+//! The circuits of a node. Called by `node_core`, and by the laws of `circuit_set`.
 ghost use Rattle.std.specs.Prelude.{[], ◌≡◌, ◌≤◌, ◌+◌, ◌<◌, ◌↔◌, ℕ, List, None, Some, true, false, if◌then◌else◌, Option, OnOk, OnErr, IfOk, IsErr, IsErrOf, IsTrue, length, slice_get};
 ghost use Rattle.std.specs.Option.{option_copied};
 ghost use Rattle.std.specs.Borrow.{Lends, sem};

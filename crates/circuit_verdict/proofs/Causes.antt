@@ -3,6 +3,7 @@ use Rattle.std.proofs.Common.{◌≡◌, ◌<◌, ◌≤◌, ◌+◌, ◌∙◌,
 use Rattle.std.specs.Prelude.{Bool, true, false, ◌&&◌, ◌||◌, cond, if◌then◌else◌, filter, flat_map, is_some, nat_le, slice_get, Option, Some, None}
 use Rattle.std.specs.List.{list_any}
 use Rattle.std.proofs.lemmas.Bool.Decides.{nat_tests}
+use Rattle.std.proofs.lemmas.Option.{same_Some}
 use Rattle.circuit_l4.specs.declared.pair.Pair.{Pair}
 use Rattle.circuit_set.specs.Books.{Book, FreshTold, HasRequester, MadeNote, NoOther, SentNote, TimelyTo, TimelyTold, empty, first_name, is_unknown, latest_in, with_events, overtakers, partner, requester, lost_in}
 use Rattle.circuit_table.specs.Events.{Event, Name}
@@ -17,7 +18,7 @@ use Rattle.circuit_verdict.specs.Ends.{EndsStand, faces, facing_in, given_in, ha
 use Rattle.circuit_verdict.specs.Sendings.{sending_in, sending_of}
 use Rattle.circuit_verdict.specs.ByBook.{InTimeByBook, allowance_of}
 use Rattle.circuit_verdict.proofs.Facing.{faces_kept}
-use Rattle.circuit_verdict.proofs.Judged.{having, lacking, some_same}
+use Rattle.circuit_verdict.proofs.Judged.{having, lacking}
 use Rattle.circuit_verdict.proofs.Returns.{faced_fails, unfaced}
 use Rattle.circuit_verdict.proofs.Runs.{fresh_at, fresh_more, timely_at, timely_more}
 
@@ -170,7 +171,7 @@ pub overtaken : (a : Allowance) (b : Book) (x y : Name) (o : Option SentNote) (v
     → count ≡ overtakers y x v.place b.sent b.heard → allowed ≡ allowance_of a b x → allowed ≤ count → Some (Overtaken v.place count allowed) ≡ overtaken_cause a b x y o
 overtaken a b x y None v count allowed e f g h = absurd (cc e)
 overtaken a b x y (Some s) v count allowed e f g h =
-    let place : v.place ≡ s.place = ap (λ (w : Sending). w.place) (some_same v (sending_of s) e) in
+    let place : v.place ≡ s.place = ap (λ (w : Sending). w.place) (same_Some v (sending_of s) e) in
     let counted : count ≡ overtakers y x s.place b.sent b.heard = f ∙ ap (λ (p : ℕ). overtakers y x p b.sent b.heard) place in
     chosen (nat_le (allowance_of a b x) (overtakers y x s.place b.sent b.heard)) (Some (Overtaken s.place (overtakers y x s.place b.sent b.heard) (allowance_of a b x))) None
     (Some (Overtaken v.place count allowed)) (many (allowance_of a b x) (overtakers y x s.place b.sent b.heard) allowed count g counted h) (cc (place, counted, g))
@@ -179,7 +180,7 @@ pub in_time : (a : Allowance) (b : Book) (x y : Name) (o : Option SentNote) (v :
     → count ≡ overtakers y x v.place b.sent b.heard → allowed ≡ allowance_of a b x → count < allowed → None ≡ overtaken_cause a b x y o
 in_time a b x y None v count allowed e f g h = absurd (cc e)
 in_time a b x y (Some s) v count allowed e f g h =
-    let place : v.place ≡ s.place = ap (λ (w : Sending). w.place) (some_same v (sending_of s) e) in
+    let place : v.place ≡ s.place = ap (λ (w : Sending). w.place) (same_Some v (sending_of s) e) in
     let counted : count ≡ overtakers y x s.place b.sent b.heard = f ∙ ap (λ (p : ℕ). overtakers y x p b.sent b.heard) place in
     other (nat_le (allowance_of a b x) (overtakers y x s.place b.sent b.heard)) (Some (Overtaken s.place (overtakers y x s.place b.sent b.heard) (allowance_of a b x))) None
     None (few (allowance_of a b x) (overtakers y x s.place b.sent b.heard) allowed count g counted h) refl

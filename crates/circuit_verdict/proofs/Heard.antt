@@ -2,12 +2,15 @@
 use Rattle.std.proofs.Common.{◌≡◌, ◌+◌, ◌∙◌, ℕ, refl, sym, ap, arith, length, List, [], ◌∷◌, ◌++◌}
 use Rattle.std.specs.Prelude.{Bool, true, false, not, cond, ◌&&◌, ◌||◌, if◌then◌else◌, nat_eq, nat_lt, filter, Option, Some, None}
 use Rattle.std.proofs.lemmas.Bool.Decides.{nat_tests}
+use Rattle.std.proofs.lemmas.Bool.{eqb-true}
+use Rattle.std.proofs.Math.Bool.{and-false}
+use Rattle.ax_address.proofs.SameNumbers.{nat_refl}
 use Rattle.circuit_set.specs.Books.{HeardNote, SentNote, first_place, has, is_heard, is_number, overtakers, sends}
 use Rattle.circuit_table.specs.Events.{Name, same_name}
+use Rattle.circuit_set.proofs.Bridge.{same_names, name_itself}
+use Rattle.circuit_set.proofs.Notes.{turned}
 use Rattle.circuit_verdict.specs.declared.message.Message.{Message}
 use Rattle.circuit_verdict.specs.Sendings.{HearsOnce, first_sent, heard_after, messages_in, with_message}
-use Rattle.circuit_verdict.proofs.Same.{name_same, name_is, name_turned, nat_same, nat_is}
-use Rattle.circuit_verdict.proofs.Tests.{and_false}
 
 abbrev one : Bool → ℕ
 one b = if b then 1 else 0
@@ -37,7 +40,7 @@ among_none p (m ∷ ms) none = among_more p m ms ∙ rw (none m, among_none p ms
 
 either_by : (q p r : Bool) → (q ≡ true → p ≡ false) → one ((q || p) && r) ≡ one (q && r) + one (p && r)
 either_by true p true apart = rw (apart refl) refl
-either_by true p false apart = rw (and_false p) refl
+either_by true p false apart = rw (and-false p) refl
 either_by false p r apart = omega arith
 
 -- of two tests of which no message passes both
@@ -79,7 +82,7 @@ own_same : (h : Bool) (y : Name) (n place first : ℕ) (ss : List SentNote) → 
 own_same true y n place first ss e before = before
 own_same false y n place first ss e before =
     let none : among (after n place) (messages_in ss y) ≡ 0 = before ∙ rw (unplaced y n ss e, none_before place) refl in
-    let here : one (nat_eq n n && nat_lt place first) ≡ one (nat_lt place first) = rw (nat_is n) refl in
+    let here : one (nat_eq n n && nat_lt place first) ≡ one (nat_lt place first) = rw (nat_refl n) refl in
     among_push (after n place) (messages_in ss y) (first_sent n first) ∙ omega (arith, none, here)
 
 -- an end sends another message
@@ -96,14 +99,14 @@ own_by : (b : Bool) (y : Name) (k n place first : ℕ) (ss : List SentNote) → 
     → among (after n place) (messages_in ss y) ≡ one (nat_lt place (first_place y n ss))
     → among (after n place) (if not (has y k ss) then messages_in ss y ++ first_sent k first ∷ [] else messages_in ss y)
     ≡ one (nat_lt place (if has y n ss then first_place y n ss else (if b then first else 0)))
-own_by true y k n place first ss e before = rw (nat_same k n e) (own_same (has y n ss) y n place first ss refl before)
+own_by true y k n place first ss e before = rw (eqb-true k n e) (own_same (has y n ss) y n place first ss refl before)
 own_by false y k n place first ss e before = own_other (has y k ss) y k n place first ss e before
 
 with_by : (c : Bool) (who y : Name) (k n place first : ℕ) (ss : List SentNote) → same_name who y ≡ c
     → among (after n place) (messages_in ss y) ≡ one (nat_lt place (first_place y n ss))
     → among (after n place) (with_message who (Some k) first ss y (messages_in ss y))
     ≡ one (nat_lt place (if has y n ss then first_place y n ss else (if c && nat_eq k n then first else 0)))
-with_by true who y k n place first ss e before = rw (name_same who y e, name_is y) (own_by (nat_eq k n) y k n place first ss refl before)
+with_by true who y k n place first ss e before = rw (same_names who y e, name_itself y) (own_by (nat_eq k n) y k n place first ss refl before)
 with_by false who y k n place first ss e before =
     rw e (before ∙ ap (λ (p : ℕ). one (nat_lt place p)) (kept (has y n ss) (first_place y n ss) (λ f. unplaced y n ss f)))
 
@@ -112,7 +115,7 @@ step_by : (o : Option ℕ) (who y : Name) (n place first : ℕ) (ss : List SentN
     → among (after n place) (with_message who o first ss y (messages_in ss y))
     ≡ one (nat_lt place (if has y n ss then first_place y n ss else (if same_name who y && is_number o n then first else 0)))
 step_by None who y n place first ss before =
-    rw (and_false (same_name who y)) (before ∙ ap (λ (p : ℕ). one (nat_lt place p)) (kept (has y n ss) (first_place y n ss) (λ f. unplaced y n ss f)))
+    rw (and-false (same_name who y)) (before ∙ ap (λ (p : ℕ). one (nat_lt place p)) (kept (has y n ss) (first_place y n ss) (λ f. unplaced y n ss f)))
 step_by (Some k) who y n place first ss before = with_by (same_name who y) who y k n place first ss refl before
 
 one_number : (y : Name) (n place : ℕ) (ss : List SentNote) → among (after n place) (messages_in ss y) ≡ one (nat_lt place (first_place y n ss))
@@ -128,9 +131,9 @@ counted_by : (c : Bool) (h : HeardNote) (hs : List HeardNote) (ss : List SentNot
     → one (c && nat_lt place (first_place y h.number ss)) + heard_after ss hs y x place
     ≡ among (λ (m : Message). ((c && nat_eq m.number h.number) || is_heard x m.number hs) && nat_lt place m.first) (messages_in ss y)
 counted_by true h hs ss y x place e new before =
-    let new_to_x : is_heard x h.number hs ≡ false = rw (name_same h.who x e) at new in
+    let new_to_x : is_heard x h.number hs ≡ false = rw (same_names h.who x e) at new in
     let both = among_either (λ (m : Message). nat_eq m.number h.number) (λ (m : Message). is_heard x m.number hs) (λ (m : Message). nat_lt place m.first) (messages_in ss y)
-    (λ m q. rw (nat_same m.number h.number q) new_to_x) in
+    (λ m q. rw (eqb-true m.number h.number q) new_to_x) in
     let here = one_number y h.number place ss in
     omega (arith, both, here, before)
 counted_by false h hs ss y x place e new before = omega (arith, before)
@@ -158,7 +161,7 @@ apart_by true b false q apart = omega arith
 apart_by false b p q apart = omega arith
 
 other_way : (h y x : Name) → same_name y x ≡ false → same_name h x ≡ true → same_name h y ≡ false
-other_way h y x e f = rw (name_same h x f, name_turned x y) e
+other_way h y x e f = rw (same_names h x f, turned x y) e
 
 pub overtakers_apart : (hs : List HeardNote) (ss : List SentNote) (y x : Name) (place : ℕ) → same_name y x ≡ false
     → overtakers y x place ss hs ≡ heard_after ss hs y x place + heard_after ss hs x y place

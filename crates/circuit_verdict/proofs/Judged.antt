@@ -3,11 +3,13 @@ use Rattle.std.proofs.Common.{◌≡◌, ◌≤◌, ◌<◌, ◌∙◌, ℕ, suc
 use Rattle.std.specs.Prelude.{Bool, true, false, ◌&&◌, ◌||◌, Option, Some, None, is_some, if◌then◌else◌}
 use Rattle.std.specs.Option.{option_copied}
 use Rattle.std.specs.Borrow.{Bor}
+use Rattle.std.proofs.lemmas.Option.{same_Some}
+use Rattle.std.proofs.Math.Bool.{and-false}
 use Rattle.ax_address.specs.Callsign.{Callsign}
 use Rattle.circuit_l4.specs.declared.pair.Pair.{Pair}
 use Rattle.circuit_table.specs.Sets as sets
 use Rattle.circuit_set.specs.Books as books
-use Rattle.circuit_table.specs.Events.{Event, Name, is_copy, same_name}
+use Rattle.circuit_table.specs.Events.{Name, is_copy, same_name}
 use Rattle.circuit_set.specs.Books.{HasRequester, HeardNote, SentNote, TimelyTo, has_sent, heard_number, heard_sending, if_asked, is_unknown, latest_to, latest_in, overtakers, partner, requester}
 use Rattle.circuit_verdict.specs.declared.book.Book.{Book}
 use Rattle.circuit_verdict.specs.declared.sendings.Sending.{Sending}
@@ -17,7 +19,6 @@ use Rattle.circuit_verdict.specs.declared.late.LateWhy.{LateWhy}
 use Rattle.circuit_verdict.specs.declared.late.LateWhy.TheVariants.{Overtaken, Returned}
 use Rattle.circuit_verdict.specs.Sendings.{IsInOrder, SendingsStand, sending_in, sending_of}
 use Rattle.circuit_verdict.specs.Judging.{Judges, JudgesHeeded, JudgesMade}
-use Rattle.circuit_verdict.proofs.Tests.{and_false}
 
 -- ---- later events ----
 order_later : (p q : ℕ) (ss : List SentNote) → p ≤ q → IsInOrder p ss → IsInOrder q ss
@@ -67,7 +68,7 @@ sent_is b x d found e = sent_found b.sent x d ∙ some_sending (latest_in b.sent
 
 pub not_joined : (b : books.Book) (x : Name) (d : List ℕ) (o : Option Name) → o ≡ partner b x → is_some o ≡ true → None ≡ if_asked b d (Some x)
 not_joined b x d None e f = absurd (cc f)
-not_joined b x d (Some y) e f = rw (sym e, and_false (has_sent b.sent x d)) refl
+not_joined b x d (Some y) e f = rw (sym e, and-false (has_sent b.sent x d)) refl
 
 joins_by : (c : Bool) (x : Name) → (if c && true then Some x else None) ≡ (if c then Some x else None)
 joins_by true x = refl
@@ -79,12 +80,9 @@ joins b x d None found e f g = rw (sym e, sent_is b x d found g) (sym (joins_by 
 joins b x d (Some y) found e f g = absurd (cc f)
 
 -- ---- what an end has heeded ----
-pub some_same : {A : Type 0} (x y : A) → Some x ≡ Some y → x ≡ y
-some_same x y e = cc e
-
 pub none_sent : (allow : books.Book → Name → ℕ) (b : books.Book) (x p : Name) (d : List ℕ) → partner b x ≡ Some p → None ≡ sending_in (latest_in b.sent p d) → TimelyTo allow b x d → ⊥
 none_sent allow b x p d e f (y, s, of, by, few) =
-    let same : y ≡ p = some_same y p (sym of ∙ e) in
+    let same : y ≡ p = same_Some y p (sym of ∙ e) in
     let found : latest_in b.sent p d ≡ Some s = rw (← same) by in
     let some : None ≡ Some (sending_of s) = f ∙ ap sending_in found in
     absurd (cc some)
@@ -92,10 +90,10 @@ none_sent allow b x p d e f (y, s, of, by, few) =
 pub too_many : (allow : books.Book → Name → ℕ) (b : books.Book) (x p : Name) (d : List ℕ) (v : Sending) → partner b x ≡ Some p → Some v ≡ sending_in (latest_in b.sent p d)
     → allow b x ≤ overtakers p x v.place b.sent b.heard → TimelyTo allow b x d → ⊥
 too_many allow b x p d v e f many (y, s, of, by, few) =
-    let same : y ≡ p = some_same y p (sym of ∙ e) in
+    let same : y ≡ p = same_Some y p (sym of ∙ e) in
     let found : latest_in b.sent p d ≡ Some s = rw (← same) by in
     let some : Some v ≡ Some (sending_of s) = f ∙ ap sending_in found in
-    let is : v ≡ sending_of s = some_same v (sending_of s) some in
+    let is : v ≡ sending_of s = same_Some v (sending_of s) some in
     let fewer : overtakers p x v.place b.sent b.heard < allow b x = rw (is, ← same) few in
     absurd (omega (arith, many, fewer))
 
@@ -106,7 +104,7 @@ pub record Found (b : books.Book) (p : Name) (d : List ℕ) (v : Sending) : Type
 
 found_by : (o : Option SentNote) (v : Sending) → Some v ≡ sending_in o → (s : SentNote) × (o ≡ Some s) × (v ≡ sending_of s)
 found_by None v e = absurd (cc e)
-found_by (Some s) v e = (s, refl, some_same v (sending_of s) e)
+found_by (Some s) v e = (s, refl, same_Some v (sending_of s) e)
 
 pub found : (b : books.Book) (p : Name) (d : List ℕ) (v : Sending) → Some v ≡ sending_in (latest_in b.sent p d) → Found b p d v
 found b p d v e = let by = found_by (latest_in b.sent p d) v e in record { note = by.0; latest = by.1; is = by.2 }

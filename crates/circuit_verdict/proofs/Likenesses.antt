@@ -6,14 +6,15 @@ use Rattle.std.specs.Ordering.{is_eq, nat_cmp, ordering_then}
 use Rattle.std.specs.declared.cmp.Ordering.{Ordering}
 use Rattle.std.specs.declared.cmp.Ordering.TheVariants.{Less, Equal, Greater}
 use Rattle.std.specs.Cmp.Lexicographic.{pointwise, slice_cmp}
+use Rattle.std.proofs.Math.Bool.{and-false, and-true}
+use Rattle.ax_address.proofs.SameCalls.{letters_turned}
 use Rattle.l3_datagram.specs.declared.datagram.TheConstants.{HEAD_SIZE, TTL_AT}
 use Rattle.circuit_set.specs.Books.{SentNote, latest_in}
 use Rattle.circuit_table.specs.Events.{Name, is_copy, same_name}
 use Rattle.circuit_verdict.specs.declared.sendings.Likeness.{Likeness}
 use Rattle.circuit_verdict.specs.declared.sendings.Sending.{Sending}
 use Rattle.circuit_verdict.specs.Sendings.{core, latest_like, likeness_cmp, name_cmp, sending_in, sending_of}
-use Rattle.circuit_verdict.proofs.Same.{nat_turned}
-use Rattle.circuit_verdict.proofs.Tests.{and_false, and_true, and_turned}
+use Rattle.circuit_verdict.proofs.Tests.{and_turned}
 
 -- ---- equal in order is equal ----
 then_by : (o p : Ordering) → is_eq (ordering_then o p) ≡ is_eq o && is_eq p
@@ -44,20 +45,14 @@ unlike : (xs ys : List ℕ) → length xs ≢ length ys → pointwise nat_eq xs 
 unlike [] [] n = absurd (n refl)
 unlike [] (y ∷ ys) n = refl
 unlike (x ∷ xs) [] n = refl
-unlike (x ∷ xs) (y ∷ ys) n = rw (unlike xs ys (λ e. n (ap suc e)), and_false (nat_eq x y)) refl
+unlike (x ∷ xs) (y ∷ ys) n = rw (unlike xs ys (λ e. n (ap suc e)), and-false (nat_eq x y)) refl
 
 -- lists whose last parts are equally long are equal in both parts or in none
 parts_by : (a b c d : List ℕ) → length b ≡ length d → pointwise nat_eq (a ++ b) (c ++ d) ≡ pointwise nat_eq b d && pointwise nat_eq a c
-parts_by [] b [] d e = sym (and_true (pointwise nat_eq b d))
-parts_by [] b (y ∷ c) d e = unlike b (y ∷ c ++ d) (λ f. absurd (omega (arith, e, f, length-append c d))) ∙ sym (and_false (pointwise nat_eq b d))
-parts_by (x ∷ a) b [] d e = unlike (x ∷ a ++ b) d (λ f. absurd (omega (arith, e, f, length-append a b))) ∙ sym (and_false (pointwise nat_eq b d))
+parts_by [] b [] d e = sym (and-true (pointwise nat_eq b d))
+parts_by [] b (y ∷ c) d e = unlike b (y ∷ c ++ d) (λ f. absurd (omega (arith, e, f, length-append c d))) ∙ sym (and-false (pointwise nat_eq b d))
+parts_by (x ∷ a) b [] d e = unlike (x ∷ a ++ b) d (λ f. absurd (omega (arith, e, f, length-append a b))) ∙ sym (and-false (pointwise nat_eq b d))
 parts_by (x ∷ a) b (y ∷ c) d e = rw (parts_by a b c d e) (and_turned (nat_eq x y) (pointwise nat_eq b d) (pointwise nat_eq a c))
-
-turned_by : (xs ys : List ℕ) → pointwise nat_eq xs ys ≡ pointwise nat_eq ys xs
-turned_by [] [] = refl
-turned_by [] (y ∷ ys) = refl
-turned_by (x ∷ xs) [] = refl
-turned_by (x ∷ xs) (y ∷ ys) = rw (nat_turned x y, turned_by xs ys) refl
 
 whole : (d : List ℕ) → HEAD_SIZE ≤ length d → nat_le HEAD_SIZE (length d) ≡ true
 whole d p = grind (arith, nat_tests, p)
@@ -74,14 +69,14 @@ front d p = let shorter : TTL_AT ≤ length d = omega (arith, p) in length-take-
 core_by : (d e : List ℕ) → HEAD_SIZE ≤ length d → HEAD_SIZE ≤ length e
     → pointwise nat_eq (core e) (core d) ≡ pointwise nat_eq (take TTL_AT d) (take TTL_AT e) && pointwise nat_eq (drop HEAD_SIZE d) (drop HEAD_SIZE e)
 core_by d e p q =
-    turned_by (core e) (core d)
+    letters_turned (core e) (core d)
     ∙ parts_by (drop HEAD_SIZE d) (take TTL_AT d) (drop HEAD_SIZE e) (take TTL_AT e) (front d p ∙ sym (front e q))
 
 copy_by : (h : Bool) (d e : List ℕ) → HEAD_SIZE ≤ length d → nat_le HEAD_SIZE (length e) ≡ h
     → h && pointwise nat_eq (core e) (core d)
     ≡ pointwise nat_eq (take TTL_AT d) (take TTL_AT e) && pointwise nat_eq (drop HEAD_SIZE d) (drop HEAD_SIZE e) && nat_le HEAD_SIZE (length d) && h
-copy_by true d e p q = rw (whole d p) (core_by d e p (at_least e q) ∙ sym (and_true _ ∙ and_true _))
-copy_by false d e p q = sym (and_false _)
+copy_by true d e p q = rw (whole d p) (core_by d e p (at_least e q) ∙ sym (and-true _ ∙ and-true _))
+copy_by false d e p q = sym (and-false _)
 
 copy_is : (d e : List ℕ) → HEAD_SIZE ≤ length d → nat_le HEAD_SIZE (length e) && pointwise nat_eq (core e) (core d) ≡ is_copy d e
 copy_is d e p = copy_by (nat_le HEAD_SIZE (length e)) d e p refl
@@ -96,11 +91,11 @@ latest_found (s ∷ ss) y d p =
     rw (copy_is d s.datagram p, latest_found ss y d p) (sending_by (same_name s.who y && is_copy d s.datagram) s (latest_in ss y d))
 
 no_copy : (d e : List ℕ) → length d < HEAD_SIZE → is_copy d e ≡ false
-no_copy d e p = rw (cut_short d p, and_false (pointwise nat_eq (take TTL_AT d) (take TTL_AT e) && pointwise nat_eq (drop HEAD_SIZE d) (drop HEAD_SIZE e))) refl
+no_copy d e p = rw (cut_short d p, and-false (pointwise nat_eq (take TTL_AT d) (take TTL_AT e) && pointwise nat_eq (drop HEAD_SIZE d) (drop HEAD_SIZE e))) refl
 
 pub latest_short : (ss : List SentNote) (y : Name) (d : List ℕ) → length d < HEAD_SIZE → latest_in ss y d ≡ None
 latest_short [] y d p = refl
-latest_short (s ∷ ss) y d p = rw (no_copy d s.datagram p, and_false (same_name s.who y)) (latest_short ss y d p)
+latest_short (s ∷ ss) y d p = rw (no_copy d s.datagram p, and-false (same_name s.who y)) (latest_short ss y d p)
 
 -- one more sending
 pub latest_noted : (key k : Likeness) (who : Name) (d : List ℕ) (v : Sending) (ss : List SentNote) → key.who ≡ who → key.octets.items ≡ core d → HEAD_SIZE ≤ length d

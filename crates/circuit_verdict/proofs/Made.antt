@@ -1,6 +1,7 @@
 -- What one more end makes of what is read off the notes.
 use Rattle.std.proofs.Common.{◌≡◌, ℕ, refl, ap, sym, ◌∙◌, List, [], ◌∷◌, ◌++◌}
 use Rattle.std.specs.Prelude.{Bool, true, false, not, ◌&&◌, ◌||◌, cond, if◌then◌else◌, nat_eq, Option, Some, None, is_some}
+use Rattle.std.proofs.lemmas.Bool.{eqb-true, and_parts}
 use Rattle.ax_address.specs.Callsign.{Callsign}
 use Rattle.circuit_l4.specs.declared.pair.Pair.{Pair}
 use Rattle.circuit_l4.specs.declared.notice.EndNotice.{EndNotice}
@@ -8,10 +9,11 @@ use Rattle.circuit_table.specs.Sets.{same_pair}
 use Rattle.circuit_set.specs.NotedRuns.{opened_window, told_to}
 use Rattle.circuit_table.specs.Events.{Name, same_name}
 use Rattle.circuit_set.specs.Books.{MadeNote, first_name, is_some_name, is_unknown, partner_in, was_asked, any_ends}
+use Rattle.circuit_set.proofs.Bridge.{same_names}
+use Rattle.circuit_set.proofs.Noted.{pairs_same}
 use Rattle.circuit_verdict.specs.declared.ends.EndNote.{EndNote}
 use Rattle.circuit_verdict.specs.Ends.{fresh_note, given_in, is_going, is_made, partner_after_joining, made_note, note_in, note_is_going, note_of, with_facing}
-use Rattle.circuit_verdict.proofs.Same.{name_same, nat_same, pair_same}
-use Rattle.circuit_verdict.proofs.Tests.{both_true, not_not}
+use Rattle.circuit_verdict.proofs.Tests.{not_not}
 
 -- none but an end that was made was opened by a request, and none but one that was made is going
 without : (b c a rest : Bool) → b || c ≡ false → (c ≡ false → rest ≡ false) → (b && a) || rest ≡ false
@@ -39,7 +41,7 @@ asked_by (Some y) = refl
 
 note_made_by : (b : Bool) (x y : Name) (own : Callsign) (pair : Pair) (r : Option Name) (ms : List MadeNote) → same_name x y ≡ b
     → cond b (Some (fresh_note (is_some r) ms x)) (note_in ms y) ≡ note_in (made_note x own pair r ∷ ms) y
-note_made_by true x y own pair r ms e = rw (e, name_same x y e, asked_by r) refl
+note_made_by true x y own pair r ms e = rw (e, same_names x y e, asked_by r) refl
 note_made_by false x y own pair r ms e = rw e refl
 
 pub note_made : (x y : Name) (own : Callsign) (pair : Pair) (r : Option Name) (ms : List MadeNote)
@@ -66,8 +68,8 @@ partner_made x y own pair r ms = joined_cases x r y (partner_in ms y) ∙ joined
 given_by : (b : Bool) (x : Name) (node : ℕ) (own : Callsign) (pair p : Pair) (r : Option Name) (ms : List MadeNote) → nat_eq x.node node && same_pair pair p ≡ b
     → cond b (given_in ms x.node pair ++ x ∷ []) (given_in ms node p) ≡ (if b then given_in ms node p ++ x ∷ [] else given_in ms node p)
 given_by true x node own pair p r ms e =
-    let both = both_true (nat_eq x.node node) (same_pair pair p) e in
-    rw (nat_same x.node node both.0, pair_same pair p both.1) refl
+    let both = and_parts (nat_eq x.node node) (same_pair pair p) e in
+    rw (eqb-true x.node node both.0, pairs_same pair p both.1) refl
 given_by false x node own pair p r ms e = refl
 
 pub given_made : (x : Name) (node : ℕ) (own : Callsign) (pair p : Pair) (r : Option Name) (ms : List MadeNote)
@@ -84,7 +86,7 @@ unasked_none ms x e = unasked ms x (unmade_by (is_made ms x) (note_of ms x) e)
 
 -- ---- two ends become partners ----
 at_own : (b : Bool) (k x i : Name) (f : Name → List Name) → same_name k x ≡ b → cond b (f k ++ i ∷ []) (f x) ≡ (if b then f x ++ i ∷ [] else f x)
-at_own true k x i f e = rw (name_same k x e) refl
+at_own true k x i f e = rw (same_names k x e) refl
 at_own false k x i f e = refl
 
 pub facing_pushed : (end r x : Name) (old mid new : Name → List Name)

@@ -1,6 +1,7 @@
 -- What one more notice makes of what is read off the notes.
 use Rattle.std.proofs.Common.{◌≡◌, ℕ, refl, ap, sym, ◌∙◌, List, [], ◌∷◌, ◌++◌}
 use Rattle.std.specs.Prelude.{Bool, true, false, not, ◌&&◌, ◌||◌, cond, if◌then◌else◌, Option, Some, None}
+use Rattle.std.proofs.Math.Bool.{and-false}
 use Rattle.ax_address.specs.Callsign.{Callsign}
 use Rattle.circuit_l4.specs.declared.pair.Pair.{Pair}
 use Rattle.circuit_l4.specs.declared.notice.EndNotice.{EndNotice}
@@ -8,10 +9,10 @@ use Rattle.circuit_l4.specs.declared.notice.EndNotice.TheVariants.{Opened, Refus
 use Rattle.circuit_set.specs.Books.{MadeNote, any_ends, made_last, partner_in, was_asked, with_notice}
 use Rattle.circuit_table.specs.Events.{Name, ends_it, same_name}
 use Rattle.circuit_set.specs.NotedRuns.{opened_window, told_to}
+use Rattle.circuit_set.proofs.Bridge.{same_names}
 use Rattle.circuit_verdict.specs.declared.ends.EndNote.{EndNote}
 use Rattle.circuit_verdict.specs.Ends.{facing_in, first_window, given_in, is_going, is_made, note_in, after_notice, after_notice_in, with_facing}
-use Rattle.circuit_verdict.proofs.Same.{name_same}
-use Rattle.circuit_verdict.proofs.Tests.{and_false, or_false, or_or}
+use Rattle.circuit_verdict.proofs.Tests.{or_false, or_or}
 
 -- one note, which is that of the end or not
 abbrev one : Bool → EndNotice → MadeNote → MadeNote
@@ -76,7 +77,7 @@ ends_more (k ∷ ns) n = rw (ends_more ns n) (or_or (ends_it k) (any_ends ns) (e
 both_go : (a e g : Bool) → not (a || e) || (g && not e) ≡ (not a || g) && not e
 both_go true true g = refl
 both_go true false g = refl
-both_go false true g = and_false g
+both_go false true g = and-false g
 both_go false false g = refl
 
 going_here_by : (b : Bool) (n : EndNotice) (m : MadeNote) (ms ns : List MadeNote) (x : Name) → same_name m.who x ≡ b → is_going ns x ≡ is_going ms x && not (ends_it n)
@@ -94,7 +95,7 @@ going_apart_by true n m ms ns x apart e = rw (apart refl, e) refl
 going_apart_by false n m ms ns x apart e = rw e refl
 
 apart : (m : MadeNote) (y x : Name) → same_name y x ≡ false → same_name m.who y ≡ true → same_name m.who x ≡ false
-apart m y x e f = rw (name_same m.who y f) e
+apart m y x e f = rw (same_names m.who y f) e
 
 going_apart : (ms : List MadeNote) (y : Name) (n : EndNotice) (x : Name) → same_name y x ≡ false → is_going (with_notice y n ms) x ≡ is_going ms x
 going_apart [] y n x e = refl
@@ -160,12 +161,12 @@ note asked ended window = record { asked = asked; ended = ended; window = window
 noticed_by : (n : EndNotice) (asked g : Bool) (w : Option ℕ) → note asked (not (g && not (ends_it n))) (window_then w n) ≡ after_notice n (note asked (not g) w)
 noticed_by (Opened v) asked true w = refl
 noticed_by (Opened v) asked false w = refl
-noticed_by Refused asked g w = rw (and_false g) refl
-noticed_by Closed asked g w = rw (and_false g) refl
-noticed_by ClosedByPartner asked g w = rw (and_false g) refl
-noticed_by FailedRetries asked g w = rw (and_false g) refl
-noticed_by FailedOversize asked g w = rw (and_false g) refl
-noticed_by FailedInactive asked g w = rw (and_false g) refl
+noticed_by Refused asked g w = rw (and-false g) refl
+noticed_by Closed asked g w = rw (and-false g) refl
+noticed_by ClosedByPartner asked g w = rw (and-false g) refl
+noticed_by FailedRetries asked g w = rw (and-false g) refl
+noticed_by FailedOversize asked g w = rw (and-false g) refl
+noticed_by FailedInactive asked g w = rw (and-false g) refl
 
 note_here_by : (made : Bool) (ms : List MadeNote) (n : EndNotice) (x : Name) → is_made ms x ≡ made
     → note_in (with_notice x n ms) x ≡ after_notice_in n (note_in ms x)
@@ -177,7 +178,7 @@ note_here_by false ms n x e = rw (made_noticed ms x n x, e) refl
 
 note_noticed_by : (b : Bool) (ms : List MadeNote) (y : Name) (n : EndNotice) (x : Name) → same_name y x ≡ b
     → cond b (after_notice_in n (note_in ms x)) (note_in ms x) ≡ note_in (with_notice y n ms) x
-note_noticed_by true ms y n x e = rw (name_same y x e) (sym (note_here_by (is_made ms x) ms n x refl))
+note_noticed_by true ms y n x e = rw (same_names y x e) (sym (note_here_by (is_made ms x) ms n x refl))
 note_noticed_by false ms y n x e = rw (made_noticed ms y n x, asked_noticed ms y n x, going_apart ms y n x e, told_apart ms y n x e) refl
 
 pub note_noticed : (ms : List MadeNote) (y : Name) (n : EndNotice) (x : Name)

@@ -4,13 +4,18 @@ use Rattle.std.specs.Prelude.{Bool, true, false, not, ◌&&◌, ◌||◌, if◌t
 use Rattle.std.specs.List.{list_any}
 use Rattle.std.proofs.lemmas.Bool.Decides.{nat_tests}
 use Rattle.std.proofs.lemmas.List.Folds.{list_any-append}
+use Rattle.std.proofs.lemmas.Bool.{not-true, eqb-true, and_parts, or_cases, or_left, or_right}
+use Rattle.ax_address.proofs.SameNumbers.{nat_refl}
 use Rattle.circuit_l4.specs.declared.pair.Pair.{Pair}
 use Rattle.circuit_table.specs.Sets.{same_pair}
 use Rattle.circuit_set.specs.Books.{Book, MadeNote, NoOther, any_ends, first_name, is_lost, is_some_name, partner_in}
 use Rattle.circuit_table.specs.Events.{Name, same_name}
+use Rattle.circuit_set.proofs.Askers.{pair_itself}
+use Rattle.circuit_set.proofs.Bridge.{same_names, name_itself}
+use Rattle.circuit_set.proofs.NewName.{some_is}
+use Rattle.circuit_set.proofs.Noted.{pairs_same}
 use Rattle.circuit_verdict.specs.Ends.{faces, facing_in, given_in, has_open_partner, is_faced, is_going, is_open, with_facing}
-use Rattle.circuit_verdict.proofs.Same.{name_is, name_same, nat_is, nat_same, pair_is, pair_same}
-use Rattle.circuit_verdict.proofs.Tests.{or_false, both_true, one_true, first_true, second_true, not_true}
+use Rattle.circuit_verdict.proofs.Tests.{or_false}
 
 -- ---- tests ----
 unequal : (a b : ℕ) → a ≢ b → nat_eq a b ≡ false
@@ -25,8 +30,8 @@ at_later y x xs c = (suc c.0, omega (arith, c.1), c.2)
 
 going_at : (ms : List MadeNote) (m : MadeNote) (k : ℕ) → k < length ms → slice_index_or ms k m ≡ m → any_ends m.told ≡ false → is_going ms m.who ≡ true
 going_at [] m k p e f = absurd (omega (arith, p))
-going_at (n ∷ ms) m zero p e f = rw (e, name_is m.who, f) refl
-going_at (n ∷ ms) m (suc k) p e f = second_true (same_name n.who m.who && not (any_ends n.told)) (is_going ms m.who) (going_at ms m k (omega (arith, p)) e f)
+going_at (n ∷ ms) m zero p e f = rw (e, name_itself m.who, f) refl
+going_at (n ∷ ms) m (suc k) p e f = or_right (same_name n.who m.who && not (any_ends n.told)) (is_going ms m.who) (going_at ms m k (omega (arith, p)) e f)
 
 pub record Going (ms : List MadeNote) (x : Name) : Type 0 where
   pub note : MadeNote
@@ -40,10 +45,10 @@ going_later n ms x g = record { note = g.note; held = at_later n g.note ms g.hel
 going_from : (ms : List MadeNote) (x : Name) → is_going ms x ≡ true → Going ms x
 going_from [] x e = absurd (cc e)
 going_from (n ∷ ms) x e =
-    elim (one_true (same_name n.who x && not (any_ends n.told)) (is_going ms x) e) [
+    elim (or_cases (same_name n.who x && not (any_ends n.told)) (is_going ms x) e) [
       | inl f ↦
-          let both = both_true (same_name n.who x) (not (any_ends n.told)) f in
-          record { note = n; held = (0, omega arith, refl); who = name_same n.who x both.0; going = not_true (any_ends n.told) both.1 }
+          let both = and_parts (same_name n.who x) (not (any_ends n.told)) f in
+          record { note = n; held = (0, omega arith, refl); who = same_names n.who x both.0; going = not-true (any_ends n.told) both.1 }
       | inr f ↦ going_later n ms x (going_from ms x f)
     ]
 
@@ -52,16 +57,16 @@ push_any : (f : Name → Bool) (xs : List Name) (x : Name) → list_any f (xs ++
 push_any f xs x = list_any-append f xs (x ∷ [])
 
 pushed_old : (f : Name → Bool) (b : Bool) (xs : List Name) (x : Name) → list_any f xs ≡ true → list_any f (if b then xs ++ x ∷ [] else xs) ≡ true
-pushed_old f true xs x e = push_any f xs x ∙ first_true (list_any f xs) (f x || false) e
+pushed_old f true xs x e = push_any f xs x ∙ or_left (list_any f xs) (f x || false) e
 pushed_old f false xs x e = e
 
 pushed_new : (f : Name → Bool) (xs : List Name) (x : Name) → f x ≡ true → list_any f (xs ++ x ∷ []) ≡ true
-pushed_new f xs x e = push_any f xs x ∙ second_true (list_any f xs) (f x || false) (first_true (f x) false e)
+pushed_new f xs x e = push_any f xs x ∙ or_right (list_any f xs) (f x || false) (or_left (f x) false e)
 
 given_at : (f : Name → Bool) (ms : List MadeNote) (q : MadeNote) (k : ℕ) → k < length ms → slice_index_or ms k q ≡ q → f q.who ≡ true
     → list_any f (given_in ms q.who.node q.pair) ≡ true
 given_at f [] q k p e g = absurd (omega (arith, p))
-given_at f (n ∷ ms) q zero p e g = rw (e, nat_is q.who.node, pair_is q.pair) (pushed_new f (given_in ms q.who.node q.pair) q.who g)
+given_at f (n ∷ ms) q zero p e g = rw (e, nat_refl q.who.node, pair_itself q.pair) (pushed_new f (given_in ms q.who.node q.pair) q.who g)
 given_at f (n ∷ ms) q (suc k) p e g =
     pushed_old f (nat_eq n.who.node q.who.node && same_pair n.pair q.pair) (given_in ms q.who.node q.pair) n.who (given_at f ms q k (omega (arith, p)) e g)
 
@@ -79,11 +84,11 @@ given_by : (c : Bool) (f : Name → Bool) (n : MadeNote) (ms : List MadeNote) (n
     → (list_any f (given_in ms node pair) ≡ true → Given f ms node pair)
     → list_any f (if c then given_in ms node pair ++ n.who ∷ [] else given_in ms node pair) ≡ true → Given f (n ∷ ms) node pair
 given_by true f n ms node pair c old e =
-    elim (one_true (list_any f (given_in ms node pair)) (f n.who || false) (sym (push_any f (given_in ms node pair) n.who) ∙ e)) [
+    elim (or_cases (list_any f (given_in ms node pair)) (f n.who || false) (sym (push_any f (given_in ms node pair) n.who) ∙ e)) [
       | inl g ↦ given_later f n ms node pair (old g)
       | inr g ↦
-          let both = both_true (nat_eq n.who.node node) (same_pair n.pair pair) c in
-          record { note = n; held = (0, omega arith, refl); passes = sym (or_false (f n.who)) ∙ g; at = nat_same n.who.node node both.0; by = pair_same n.pair pair both.1 }
+          let both = and_parts (nat_eq n.who.node node) (same_pair n.pair pair) c in
+          record { note = n; held = (0, omega arith, refl); passes = sym (or_false (f n.who)) ∙ g; at = eqb-true n.who.node node both.0; by = pairs_same n.pair pair both.1 }
     ]
 given_by false f n ms node pair c old e = given_later f n ms node pair (old e)
 
@@ -100,11 +105,11 @@ facing_some : (b c : Bool) (f : Name → Bool) (who y u v : Name) (rest : Option
     → (if b then Some who else first_name (if c then Some y else None) rest) ≡ Some v → list_any f (with_facing who (Some y) v xs) ≡ true
 facing_some true c f who y u v rest xs b_is c_is g old e =
     let is : who ≡ v = cc e in
-    let here : list_any f (if same_name who v then xs ++ y ∷ [] else xs) ≡ true = rw (is, name_is v, name_same y u b_is) (pushed_new f xs u g) in
+    let here : list_any f (if same_name who v then xs ++ y ∷ [] else xs) ≡ true = rw (is, name_itself v, same_names y u b_is) (pushed_new f xs u g) in
     pushed_old f (same_name y v) (if same_name who v then xs ++ y ∷ [] else xs) who here
 facing_some false true f who y u v rest xs b_is c_is g old e =
     let is : y ≡ v = cc e in
-    rw (is, name_is v, name_same who u c_is) (pushed_new f (if same_name u v then xs ++ v ∷ [] else xs) u g)
+    rw (is, name_itself v, same_names who u c_is) (pushed_new f (if same_name u v then xs ++ v ∷ [] else xs) u g)
 facing_some false false f who y u v rest xs b_is c_is g old e =
     pushed_old f (same_name y v) (if same_name who v then xs ++ y ∷ [] else xs) who (pushed_old f (same_name who v) xs y (old e))
 
@@ -123,20 +128,16 @@ facing_at f (m ∷ ms) u v g e = facing_by m.partner f m.who u v (partner_in ms 
 
 any_from : (f : Name → Bool) (xs : List Name) → list_any f xs ≡ true → (x : Name) × (f x ≡ true)
 any_from f [] e = absurd (cc e)
-any_from f (x ∷ xs) e = elim (one_true (f x) (list_any f xs) e) [ inl g ↦ (x, g) | inr g ↦ any_from f xs g ]
+any_from f (x ∷ xs) e = elim (or_cases (f x) (list_any f xs) e) [ inl g ↦ (x, g) | inr g ↦ any_from f xs g ]
 
 -- ---- the rule ----
-is_name : (o : Option Name) (v : Name) → is_some_name o v ≡ true → o ≡ Some v
-is_name None v e = absurd (cc e)
-is_name (Some y) v e = ap Some (name_same y v e)
-
 pub unfaced : (b : Book) (lost : List Name) (node : ℕ) (pair : Pair) → is_faced b.made lost node pair ≡ false → NoOther b lost node pair
 unfaced b lost node pair e m q held_m held_q going kept elsewhere partner at by =
     let u = m.who in
     let v = q.who in
     let going_u : is_going b.made u ≡ true = going_at b.made m held_m.0 held_m.1 held_m.2 going in
     let other : nat_eq u.node v.node ≡ false = rw at (unequal u.node node elsewhere) in
-    let known : is_some_name (partner_in b.made u) v ≡ true = rw partner (name_is v) in
+    let known : is_some_name (partner_in b.made u) v ≡ true = rw partner (name_itself v) in
     let faces_v : faces b.made lost v u ≡ true = rw (other, going_u, kept, known) refl in
     let opened : has_open_partner b.made lost v ≡ true = facing_at (faces b.made lost v) b.made u v faces_v partner in
     let faced : is_faced b.made lost v.node q.pair ≡ true = given_at (has_open_partner b.made lost) b.made q held_q.0 held_q.1 held_q.2 opened in
@@ -160,16 +161,16 @@ pub record Facing (b : Book) (lost : List Name) (node : ℕ) (pair : Pair) (u : 
 notes_of : (b : Book) (lost : List Name) (node : ℕ) (pair : Pair) (f : Name → Bool) (given : Given f b.made node pair) (u : Name) → faces b.made lost given.note.who u ≡ true → Facing b lost node pair u
 notes_of b lost node pair f given u facing =
     let q = given.note in
-    let first = both_true (not (nat_eq u.node q.who.node) && is_open b.made lost u) (is_some_name (partner_in b.made u) q.who) facing in
-    let second = both_true (not (nat_eq u.node q.who.node)) (is_open b.made lost u) first.0 in
-    let third = both_true (is_going b.made u) (not (is_lost lost u)) second.1 in
+    let first = and_parts (not (nat_eq u.node q.who.node) && is_open b.made lost u) (is_some_name (partner_in b.made u) q.who) facing in
+    let second = and_parts (not (nat_eq u.node q.who.node)) (is_open b.made lost u) first.0 in
+    let third = and_parts (is_going b.made u) (not (is_lost lost u)) second.1 in
     let going = going_from b.made u third.0 in
     let m = going.note in
-    let kept : is_lost lost m.who ≡ false = rw going.who (not_true (is_lost lost u) third.1) in
-    let other : u.node ≢ q.who.node = apart u.node q.who.node (not_true (nat_eq u.node q.who.node) second.0) in
+    let kept : is_lost lost m.who ≡ false = rw going.who (not-true (is_lost lost u) third.1) in
+    let other : u.node ≢ q.who.node = apart u.node q.who.node (not-true (nat_eq u.node q.who.node) second.0) in
     let node_of : Name → ℕ = λ x. x.node in
     let elsewhere : m.who.node ≢ node = λ same. other (sym (ap node_of going.who) ∙ same ∙ sym given.at) in
-    let partner : partner_in b.made m.who ≡ Some q.who = rw going.who (is_name (partner_in b.made u) q.who first.1) in
+    let partner : partner_in b.made m.who ≡ Some q.who = rw going.who (some_is (partner_in b.made u) q.who first.1) in
     record {
       holder = m;
       partner = q;

@@ -6,6 +6,7 @@ use Rattle.circuit_table.specs.Sets.{CircuitTold, Made, Sent, Heeded, Notice, Go
 use Rattle.circuit_set.specs.Books as books
 use Rattle.circuit_table.specs.Events.{Event, Name}
 use Rattle.circuit_set.specs.Books.{Fresh, FreshFrom, FreshTold, Timely, TimelyTold, empty, lost_with, with_event, with_events, lost_in}
+use Rattle.circuit_set.proofs.Noted.{lost_more}
 use Rattle.circuit_verdict.specs.declared.book.Book.{Book}
 use Rattle.circuit_verdict.specs.declared.event.Event.{Event as Coming}
 use Rattle.circuit_verdict.specs.declared.event.Numbered.{Numbered}
@@ -30,10 +31,6 @@ fresh_more b lost (k ∷ es) e all here = (all.0, fresh_more (with_event b k) (l
 noted_more : (b : books.Book) (es : List Event) (e : Event) → with_events b (es ++ e ∷ []) ≡ with_event (with_events b es) e
 noted_more b [] e = refl
 noted_more b (k ∷ es) e = noted_more (with_event b k) es e
-
-lost_more : (lost : List Name) (es : List Event) (e : Event) → lost_in lost (es ++ e ∷ []) ≡ lost_with (lost_in lost es) e.node e.told
-lost_more lost [] e = refl
-lost_more lost (k ∷ es) e = lost_more (lost_with lost k.node k.told) es e
 
 events_more : (ns : List Numbered) (n : Numbered) → events_of (ns ++ n ∷ []) ≡ events_of ns ++ event_of n.event ∷ []
 events_more [] n = refl

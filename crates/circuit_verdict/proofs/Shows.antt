@@ -3,6 +3,7 @@ use Rattle.std.proofs.Common.{◌≡◌, ◌≤◌, ◌∙◌, ℕ, refl, sym, a
 use Rattle.std.specs.Prelude.{Bool, true, false, ◌&&◌, ◌||◌, cond, if◌then◌else◌, filter, flat_map, is_some, nat_le, slice_get, Option, Some, None}
 use Rattle.std.specs.List.{list_any}
 use Rattle.std.proofs.lemmas.Bool.Decides.{nat_tests}
+use Rattle.std.proofs.lemmas.Bool.{or_left, or_right}
 use Rattle.circuit_l4.specs.declared.pair.Pair.{Pair}
 use Rattle.circuit_set.specs.Books.{Book, Fresh, MadeNote, SentNote, empty, first_name, is_unknown, latest_by, latest_in, lost_in, overtakers, partner, requester, with_events}
 use Rattle.circuit_set.specs.ByBook.{FreshByBook, HeldByBook, OvertakenByBook, TooManyByBook, UnaskedByBook, UnsentByBook}
@@ -19,7 +20,6 @@ use Rattle.circuit_verdict.specs.Ends.{faces, facing_in, given_in}
 use Rattle.circuit_verdict.specs.Verdicts.{allows_of}
 use Rattle.circuit_verdict.proofs.Causes.{first_either}
 use Rattle.circuit_verdict.proofs.Returns.{Facing, faced_notes}
-use Rattle.circuit_verdict.proofs.Tests.{first_true, second_true}
 
 -- ---- the first that faces an end
 passing : (c : Bool) (f : Name → Bool) (x z : Name) (rest : List Name) → f x ≡ c → (slice_get rest 0 ≡ Some z → f z ≡ true) → slice_get (cond c (x ∷ rest) rest) 0 ≡ Some z → f z ≡ true
@@ -36,10 +36,10 @@ module _ (ms : List MadeNote) (lost : List Name) (z : Name) where
 
   facing_one : (o : Option Name) (x : Name) (xs : List Name) → slice_get (filter (faces ms lost x) (facing_in ms x)) 0 ≡ o → first_name o (slice_get (those_of xs) 0) ≡ Some z
       → (slice_get (those_of xs) 0 ≡ Some z → list_any (λ (y : Name). faces ms lost y z) xs ≡ true) → faces ms lost x z || list_any (λ (y : Name). faces ms lost y z) xs ≡ true
-  facing_one None x xs h e later = second_true (faces ms lost x z) (list_any (λ (y : Name). faces ms lost y z) xs) (later e)
+  facing_one None x xs h e later = or_right (faces ms lost x z) (list_any (λ (y : Name). faces ms lost y z) xs) (later e)
   facing_one (Some w) x xs h e later =
       let same : w ≡ z = cc e in
-      first_true (faces ms lost x z) (list_any (λ (y : Name). faces ms lost y z) xs) (first_passes (faces ms lost x) (facing_in ms x) z (h ∙ ap Some same))
+      or_left (faces ms lost x z) (list_any (λ (y : Name). faces ms lost y z) xs) (first_passes (faces ms lost x) (facing_in ms x) z (h ∙ ap Some same))
 
   facing_some : (xs : List Name) → slice_get (those_of xs) 0 ≡ Some z → list_any (λ (y : Name). faces ms lost y z) xs ≡ true
   facing_some [] e = absurd (cc e)

@@ -1,4 +1,4 @@
-//! How many overtakers are too many.
+//! How many overtakers are too many. Used by `book`, `cause` and `verdict`, and by the replay.
 
 /// How many overtakers are too many (this project's profile).
 #[derive(Clone, Copy, Debug, PartialEq, Eq)]

@@ -1,4 +1,4 @@
-//! What is told of a circuit.
+//! What is told of a circuit. Used by `book`, `cause` and `event`, and by the replay.
 use ax_address::Call;
 use circuit_l4::{EndFacts, EndNotice, Pair};
 

@@ -1,4 +1,4 @@
-//! What is told at a node, event by event.
+//! What is told at a node, event by event. Used by `book`, `cause` and `verdict`, and by the replay.
 use crate::circuit_told::CircuitTold;
 use ax_address::Call;
 

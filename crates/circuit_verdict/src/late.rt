@@ -1,4 +1,4 @@
-//! What came too late.
+//! What came too late. Used by `book` and `verdict`, and by the replay.
 
 /// What came back too late.
 #[derive(Clone, Copy, Debug, PartialEq, Eq)]

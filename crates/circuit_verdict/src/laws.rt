@@ -1,4 +1,4 @@
-//! What holds of the verdict on any list of events.
+//! What holds of the verdict on any list of events. Called by `verdict`.
 ghost use Rattle.circuit_verdict.specs.Causes.{CausesShow};
 
 use circuit_set::laws;

@@ -1,4 +1,4 @@
-//! The verdict on a list of events.
+//! The verdict on a list of events. Called by the replay.
 ghost use Rattle.std.specs.Prelude.{◌≡◌, ◌↔◌, ◌++◌, ◌∷◌, [], List, Option, Some, None, Err, OnOk, OnErr, IfOk};
 ghost use Rattle.circuit_verdict.specs.declared.cause.Cause.{Cause as SeenCause};
 ghost use Rattle.circuit_verdict.specs.declared.event.Numbered.{Numbered as SeenNumbered};

@@ -1,4 +1,4 @@
-//! A KISS stream is taken in item by item, and each item is answered.
+//! A KISS stream is taken in item by item, and each item is answered. Called by `tool_cmd` and `look_cmd`.
 ghost use Rattle.std.specs.Prelude.{◌≡◌, ◌++◌, ◌≤◌, ◌<◌, [], List, ℕ, length, take, None, Some, OnOk, IfOk};
 ghost use Rattle.kiss_framing.specs.Stream.{StandsFor, Item, items};
 ghost use Rattle.kiss_framing.specs.Feeding.{handed_out};

@@ -1,4 +1,4 @@
-//! Octets as KISS bytes.
+//! Octets as KISS bytes. Called by `tool_cmd` and `node_cmd`.
 ghost use Rattle.std.specs.Prelude.{◌≡◌, ◌≤◌, ◌+◌, ◌*◌, length};
 ghost use Rattle.kiss_framing.specs.Stream.{framed};
 

@@ -1,4 +1,4 @@
-//! What is noted where input was refused.
+//! What is noted where input was refused. Called by `refusals` and `streams`, and by `node_cmd` and `look_cmd`.
 ghost use Rattle.std.specs.Prelude.{◌≡◌, ℕ, List, Some, IfOk, string_bytes};
 ghost use Rattle.cmd_streams.specs.Told.{bad_line_note, Says};
 

@@ -1,4 +1,4 @@
-//! How a program starts, with what it was given, and how it ends.
+//! How a program starts, with what it was given, and how it ends. Called by `node_cmd` and `look_cmd`.
 ghost use Rattle.std.specs.Prelude.{◌≡◌, ◌⊎◌, List, String, IfOk, drop};
 ghost use Rattle.std.specs.Process.{exit_status as ends_with};
 ghost use Rattle.std.specs.Vec.Iter.{into_iter_items};

@@ -1,4 +1,4 @@
-//! A file is read to its end, and a source over any reader.
+//! A file is read to its end, and a source over any reader. Called by `program`, and by `tool_cmd`, `node_cmd` and `look_cmd`.
 ghost use Rattle.std.specs.Prelude.{◌≡◌, ◌++◌, List, ℕ, length, OnOk, IfOk, IfErr, None};
 ghost use Rattle.std.specs.Io.KnownBytes.{Consumes, IsAtEnd};
 ghost use Rattle.cmd_streams.specs.Reading.{ReadsAll, WhyUnread, WhyNoMore};

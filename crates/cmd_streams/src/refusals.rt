@@ -1,4 +1,5 @@
-//! Input that is refused: why a file wasn't read, what is noted of that, and how the command ends.
+//! Input that is refused: why a file wasn't read, what is noted of that, and how the command ends. Called by `reading`, and by `tool_cmd`,
+//! `node_cmd` and `look_cmd`.
 ghost use Rattle.std.specs.Prelude.{◌≡◌, ◌≢◌, ◌⊎◌, ℕ, List, Some};
 ghost use Rattle.cmd_streams.specs.Told.{bad_line_note, Says};
 ghost use Rattle.cmd_streams.specs.Reading.{status_of};

@@ -1,4 +1,5 @@
-//! How a run ends, and its exit status.
+//! How a run ends, and its exit status. Called by `items`, `program`, `refusals` and `streams`, and by `tool_cmd`, `node_cmd` and
+//! `look_cmd`.
 ghost use Rattle.std.specs.Prelude.{◌≡◌};
 ghost use Rattle.cmd_streams.specs.Statuses.{exit_status};
 

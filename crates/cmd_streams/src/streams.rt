@@ -1,4 +1,4 @@
-//! A stream is read to its end, and each read is answered before the next.
+//! A stream is read to its end, and each read is answered before the next. Called by `items`, and by `node_cmd`.
 ghost use Rattle.std.specs.Prelude.{◌≡◌, ◌++◌, ◌∷◌, ◌<◌, [], List, ℕ, length, OnOk, IfErr};
 ghost use Rattle.std.specs.Io.KnownBytes.{Appends};
 ghost use Rattle.cmd_streams.specs.declared.status.Status.TheVariants.{Done};

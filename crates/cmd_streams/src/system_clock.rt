@@ -1,4 +1,4 @@
-//! A clock over the system's clock: the edge of what is proved.
+//! A clock over the system's clock: the edge of what is proved. Called by `program`, and by `node_cmd`.
 ghost use Rattle.std.specs.Prelude.{◌≡◌, None};
 
 use radio_base::{Clock, Moment};

@@ -1,4 +1,5 @@
-//! All of a text is written, piece by piece, and a sink over any writer.
+//! All of a text is written, piece by piece, and a sink over any writer. Called by `notes`, `program` and `streams`, and by `tool_cmd`,
+//! `node_cmd` and `look_cmd`.
 ghost use Rattle.std.specs.Prelude.{◌≡◌, OnOk, OnErr};
 ghost use Rattle.std.specs.Io.KnownBytes.{Appends};
 ghost use Rattle.radio_base.specs.Causes.{Rose};

@@ -2,9 +2,9 @@
 use Rattle.std.proofs.Common.{◌≡◌, Bool, true, false, if◌then◌else◌, List, [], ◌∷◌, ◌++◌, refl, ap}
 use Rattle.ax_address.specs.declared.address.Address.{Address}
 use Rattle.ax_address.specs.Callsign.{Callsign, same_call}
+use Rattle.ax_address.proofs.SameCalls.{same_call-true, same_call-equal, same_call-apart, apart}
 use Rattle.digi_path.specs.Paths.{Action, For_me, Repeat, Not_yet, Heard, action, behind, repeated}
 use Rattle.digi_path.specs.Laws.{ActsByTheNextRepeater, AllHaveRepeated, IsNext, Acts, For_this_station, For_another_station, By_this_repeater, By_another_repeater}
-use Rattle.digi_path.proofs.Calls.{same_call-true, same_call-equal, same_call-apart, apart}
 
 -- a repeater in front that has repeated the frame changes nothing but the path
 next_behind : (r : Address) (before : List Address) (next : Address) (rest path : List Address) → r.bit7 ≡ true → IsNext before next rest path → IsNext (r ∷ before) next rest (r ∷ path)

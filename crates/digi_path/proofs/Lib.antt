@@ -1,4 +1,3 @@
-pub mod Calls
 pub mod Acting
 pub mod Judging
 pub mod WaysBack

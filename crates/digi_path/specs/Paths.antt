@@ -1,6 +1,7 @@
 -- What a station does with a frame by the path that it travels, and the path of an answer.
 -- (AX.25 2.2, section 3.12.)
-use Rattle.std.specs.Prelude.{Bool, true, false, List, [], ◌∷◌, map, reverse, if◌then◌else◌}
+use Rattle.std.specs.Prelude.{ℕ, ◌+◌, ◌*◌, Bool, true, false, List, [], ◌∷◌, map, reverse, bit_or, slice_index, slice_set, if◌then◌else◌}
+use Rattle.std.specs.List.{prefix_len}
 use Rattle.ax_address.specs.declared.address.Address.{Address}
 use Rattle.ax_address.specs.Callsign.{Callsign, same_call}
 use Rattle.digi_path.specs.declared.digi_step.DigiStep.{DigiStep}
@@ -46,6 +47,17 @@ action (repeater ∷ path) dest own =
     if has_repeated repeater
     then behind repeater (action path dest own)
     else (if same_call repeater.call own then Repeat (repeated repeater ∷ path) else Not_yet)
+
+-- The octet of an address in which its H bit stands, by the repeater's number from 0: behind the two end addresses, of seven
+-- octets each, the last one of its own (section 3.12).
+abbrev pub h_octet : ℕ → ℕ
+h_octet nth = 14 + 7 * nth + 6
+
+-- the same octets, with the H bit set of the first repeater that hasn't repeated the frame
+abbrev pub repeated_octets : List Address → List ℕ → List ℕ
+repeated_octets path octets =
+    let at = h_octet (prefix_len has_repeated path) in
+    slice_set octets at (bit_or (slice_index octets at) 0x80)
 
 -- the path of an answer: the repeaters in reverse order, none of which has repeated it yet
 abbrev pub way_back : List Address → List Address

@@ -1,9 +1,8 @@
 //! What a station does with a frame by its path (AX.25 2.2, sections 3.12 and C2.5).
 ghost use Rattle.std.specs.Prelude.{◌≡◌, ◌<◌, ◌≤◌, length, slice_set};
-ghost use Rattle.std.specs.List.{prefix_len};
-ghost use Rattle.digi_path.specs.Paths.{action, action_of, has_repeated};
+ghost use Rattle.digi_path.specs.Paths.{action, action_of};
 
-use crate::h_bit::with_h_bit;
+use crate::h_bit::{times_repeated, with_h_bit};
 use ax_address::{Address, Call, Path};
 
 /// What a station does with a frame that it hears, by the frame's addresses.
@@ -36,14 +35,6 @@ pub fn step(path: &Path, dest: &Call, own: &Call) -> DigiStep
         None if dest == own => DigiStep::ForMe,
         None => DigiStep::Heard,
     }
-}
-
-/// How many repeaters at the front have repeated the frame.
-fn times_repeated(path: &[Address]) -> usize
-    ensures value { result ≡ prefix_len has_repeated path.now }
-    ensures bound { result ≤ length path.now }
-{
-    path.iter().take_while(|repeater| repeater.bit7).count()
 }
 
 /// The path with another address at `at`.

@@ -1,4 +1,4 @@
-//! What the definitions promise by themselves.
+//! Laws of the definitions of paths alone. No code calls them.
 
 ghost use Rattle.digi_path.specs.Laws.{ActsByTheNextRepeater, TwiceReversed};
 

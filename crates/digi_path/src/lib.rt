@@ -10,4 +10,5 @@ pub mod laws;
 mod reversal;
 
 pub use digi_step::{DigiStep, step};
+pub use h_bit::set_h_bit;
 pub use reversal::reversed;

@@ -1,4 +1,4 @@
-//! The way back of an answer.
+//! The way back of an answer. Called by `link_table`.
 ghost use Rattle.std.specs.Prelude.{◌≡◌};
 ghost use Rattle.digi_path.specs.Paths.{way_back};
 

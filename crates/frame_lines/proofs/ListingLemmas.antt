@@ -1,5 +1,5 @@
 -- The lines of items.
-use Rattle.std.proofs.Common.{◌≡◌, ◌≢◌, ◌++◌, ◌-◌, ℕ, List, [], ◌∷◌, refl, sym, inl, inr, codes, length, take, drop, take_all, length-drop, arith, false, append_assoc, append-nil}
+use Rattle.std.proofs.Common.{◌≡◌, ◌≢◌, ◌++◌, ◌-◌, ℕ, List, [], ◌∷◌, refl, sym, inl, inr, codes, length, arith, false, append_assoc, append-nil}
 use Rattle.std.specs.Prelude.{◌==◌, Some}
 use Rattle.std.proofs.lemmas.Bool.Decides.{nat_tests}
 use Rattle.kiss_framing.specs.Stream.{Item, Frame as Piece}
@@ -40,7 +40,3 @@ shows_fault size port octets e first = (
   inr (record { fault = e; first = first; shown = refl }),
   as_three (number_text (codes "port=") port) (codes " bad ") (refusal_text e) (codes "\n"),
 )
-
--- a slice from a place on is all that stands there
-pub rest_of : (n : ℕ) (xs : List ℕ) → take (length xs - n) (drop n xs) ≡ drop n xs
-rest_of n xs = take_all (length xs - n) (drop n xs) (omega (arith, length-drop n xs))

@@ -5,14 +5,11 @@ use Rattle.ax_address.specs.Callsign.{Callsign, padded, same_call}
 use Rattle.ax_frame.specs.declared.control.Control.{Control}
 use Rattle.ax_frame.specs.declared.control.Control.TheVariants.{Ui}
 use Rattle.ax_frame.specs.Frames.{Frame}
+pub use Rattle.nodes_broadcast.specs.Nodes.{nodes_call}
 use Rattle.frame_lines.specs.DatagramLines.{datagram_text}
 use Rattle.frame_lines.specs.NodesLines.{nodes_text}
 use Rattle.frame_lines.specs.PacketLines.{arp_text, packet_text}
 use Rattle.frame_lines.specs.TextLines.{text_line}
-
--- the call to which nodes broadcast (NET/ROM, Appendix B)
-abbrev pub nodes_call : Callsign
-nodes_call = record { letters = padded (codes "NODES"); ssid = 0 }
 
 abbrev pub is_ui : Control → Bool
 is_ui (Ui pf) = true

@@ -1,35 +1,34 @@
 -- What a listener writes for the items of a KISS stream: the line of each item, and below that of a frame what it carries. Own profile.
-use Rattle.std.specs.Prelude.{ℕ, List, [], ◌∷◌, ◌++◌, length, ◌==◌, codes, Result, Ok, Err, if◌then◌else◌}
+use Rattle.std.specs.Prelude.{ℕ, List, [], ◌∷◌, ◌++◌, length, ◌==◌, codes, Option, None, Some, Result, Ok, Err, if◌then◌else◌}
 use Rattle.ax_frame.specs.declared.frame.FrameRefusal.{FrameRefusal}
 use Rattle.ax_frame.specs.declared.head.Head.{Head}
 use Rattle.ax_frame.specs.Frames.{Frame, read_at, read_head_at}
-use Rattle.kiss_framing.specs.declared.item.KissItem.{KissItem}
-use Rattle.kiss_framing.specs.declared.item.KissItem.TheVariants as kiss
 use Rattle.kiss_framing.specs.Stream.{Item, Frame as Piece, Too_long}
-use Rattle.frame_lines.specs.declared.modulo.Modulo.{Modulo}
-use Rattle.frame_lines.specs.declared.modulo.Modulo.TheVariants.{Auto, M8, M128}
+pub use Rattle.kiss_framing.specs.Feeding.{item_of}
+use Rattle.radio_base.specs.declared.modulus.LinkModulus.{LinkModulus}
+use Rattle.radio_base.specs.declared.modulus.LinkModulus.TheVariants.{Modulo8}
+use Rattle.radio_base.specs.Modulus.{modulus_size}
 use Rattle.frame_lines.specs.declared.stations.Stations.{Stations}
 use Rattle.frame_lines.specs.Contents.{contents}
 use Rattle.frame_lines.specs.Listing.{bad_line, command_line, frame_line}
 use Rattle.frame_lines.specs.Moduli.{after_frame, modulus_of}
 
--- how sequence numbers are read, and the pairs of stations that have them modulo 128
+-- by which modulus sequence numbers are read, which else the stations say, and the pairs of stations that have them modulo 128
 pub record Listening : Type 0 where
-  pub modulo : Modulo
+  pub modulus : Option LinkModulus
   pub extended : List Stations
 
-abbrev pub by_head : Result (Head × ℕ) FrameRefusal → List Stations → ℕ
+abbrev pub by_head : Result (Head × ℕ) FrameRefusal → List Stations → LinkModulus
 by_head (Ok head) pairs = modulus_of head.0 pairs
-by_head (Err e) pairs = 8
+by_head (Err e) pairs = Modulo8
 
 -- the modulus by which these octets are read
-abbrev pub size_by : Modulo → List Stations → List ℕ → ℕ
-size_by Auto pairs octets = by_head (read_head_at octets) pairs
-size_by M8 pairs octets = 8
-size_by M128 pairs octets = 128
+abbrev pub modulus_by : Option LinkModulus → List Stations → List ℕ → LinkModulus
+modulus_by None pairs octets = by_head (read_head_at octets) pairs
+modulus_by (Some modulus) pairs octets = modulus
 
-abbrev pub size_for : Listening → List ℕ → ℕ
-size_for l octets = size_by l.modulo l.extended octets
+abbrev pub modulus_for : Listening → List ℕ → LinkModulus
+modulus_for l octets = modulus_by l.modulus l.extended octets
 
 -- what is known behind a frame, and its lines
 abbrev pub by_read : Listening → ℕ → Result Frame FrameRefusal → Listening × List ℕ
@@ -39,12 +38,8 @@ by_read l port (Err e) = (l, bad_line port e)
 -- command 0 is data
 abbrev pub by_item : Listening → Item → Listening × List ℕ
 by_item l (Piece port command payload) =
-    if command == 0 then by_read l port (read_at (size_for l payload) payload) else (l, command_line port command (length payload))
+    if command == 0 then by_read l port (read_at (modulus_size (modulus_for l payload)) payload) else (l, command_line port command (length payload))
 by_item l Too_long = (l, codes "too long\n")
-
-abbrev pub item_of : KissItem → Item
-item_of (kiss.Frame port command payload) = Piece port command payload.now
-item_of kiss.TooLong = Too_long
 
 -- item by item
 abbrev pub by_items : Listening → List Item → Listening × List ℕ

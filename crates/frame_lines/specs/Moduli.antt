@@ -1,10 +1,12 @@
 -- The modulus of sequence numbers between two stations, as the last set-up command between them says: SABME for 128, SABM for 8
 -- (AX.25 2.2, sections 4.3.3.1 and 4.3.3.2). That no more than 256 pairs of stations are kept in mind is own profile.
-use Rattle.std.specs.Prelude.{ℕ, List, [], ◌∷◌, ◌++◌, length, drop, filter, nat_le, Bool, false, ◌&&◌, ◌||◌, not, if◌then◌else◌}
+use Rattle.std.specs.Prelude.{List, [], ◌∷◌, ◌++◌, length, drop, filter, nat_le, Bool, false, ◌&&◌, ◌||◌, not, if◌then◌else◌}
 use Rattle.ax_address.specs.Callsign.{Callsign, same_call}
 use Rattle.ax_frame.specs.declared.control.Control.{Control}
 use Rattle.ax_frame.specs.declared.control.Control.TheVariants.{Sabm, Sabme}
 use Rattle.ax_frame.specs.declared.head.Head.{Head}
+use Rattle.radio_base.specs.declared.modulus.LinkModulus.{LinkModulus}
+use Rattle.radio_base.specs.Modulus.{extended_if}
 use Rattle.frame_lines.specs.declared.stations.Stations.{Stations}
 
 -- these are the two stations, either way round
@@ -32,5 +34,5 @@ is_extended a b [] = false
 is_extended a b (s ∷ later) = are_these a b s || is_extended a b later
 
 -- the modulus by which a frame of this head is read
-abbrev pub modulus_of : Head → List Stations → ℕ
-modulus_of h pairs = if is_extended h.source.call h.dest.call pairs then 128 else 8
+abbrev pub modulus_of : Head → List Stations → LinkModulus
+modulus_of h pairs = extended_if (is_extended h.source.call h.dest.call pairs)

@@ -10,7 +10,7 @@ use Rattle.circuit_l4.specs.declared.transport.Transport.{Transport}
 use Rattle.circuit_l4.specs.declared.transport.Transport.TheVariants.{Request, Accept, Refuse, Disconnect, Disconnected, Info, InfoAck}
 use Rattle.circuit_l4.specs.declared.transport.TransportRefusal.{TransportRefusal}
 use Rattle.circuit_l4.specs.Transports.{transport_at}
-use Rattle.frame_lines.specs.TextLines.{shown_text}
+use Rattle.text_lines.specs.Lines.{shown_text}
 use Rattle.frame_lines.specs.Words.{transport_fault}
 
 -- INDEX/IDENTIFICATION

@@ -8,8 +8,8 @@ use crate::datagrams::write_datagram_text;
 use crate::nodes::write_nodes_text;
 use crate::packets::{write_arp_text, write_packet_text};
 use crate::texts::write_text;
-use ax_address::Call;
 use ax_frame::{Control, FrameView, Head};
+use nodes_broadcast::nodes_call;
 use radio_base::{NoMemory, TextOut};
 use std::alloc::{AllocError, Global};
 
@@ -55,14 +55,6 @@ fn is_to_nodes(head: &Head) -> bool
     ensures { result ≡ same_call head.now.dest.call lines.nodes_call }
 {
     head.dest.call == nodes_call()
-}
-
-/// The call to which nodes broadcast.
-#[tactic(auto, using(crate::proofs::Names::nodes_is_call))]
-fn nodes_call() -> Call
-    ensures { result ≡ lines.nodes_call }
-{
-    Call::from_letters(*b"NODES ", 0)
 }
 
 fn write_segment(alloc: Global, info: &[u8], out: &mut TextOut) -> Result<(), NoMemory>

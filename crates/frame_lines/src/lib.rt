@@ -9,7 +9,6 @@ mod contents;
 mod datagrams;
 mod listener;
 mod listing;
-mod modulo;
 mod nodes;
 mod packets;
 mod stations;
@@ -19,4 +18,3 @@ mod words;
 
 pub use listener::Listener;
 pub use listing::add_item;
-pub use modulo::Modulo;

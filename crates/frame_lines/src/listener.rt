@@ -1,11 +1,10 @@
-//! A listener takes the items of a KISS stream in, and tells what each carries.
+//! A listener takes the items of a KISS stream in, and tells what each carries. Called by `look_cmd`.
 use crate::contents::write_contents;
 use crate::listing::{add_bad, add_command, add_frame};
-use crate::modulo::Modulo;
 use crate::stations::{Stations, is_extended, note_frame};
 use ax_frame::{read_frame, read_head};
 use kiss_framing::KissItem;
-use radio_base::{M8, M128, Modulus, NoMemory, TextOut};
+use radio_base::{LinkModulus, M8, M128, Modulus, NoMemory, TextOut};
 use std::alloc::Global;
 use std::marker::Model;
 
@@ -13,7 +12,10 @@ use std::marker::Model;
 #[derive(Drop)]
 pub struct Listener {
     alloc: Global,
-    modulo: Modulo,
+    /// By which modulus sequence numbers are read, which no frame tells (AX.25 2.2, section 4.2.1). None: as the last
+    /// set-up command between two stations says, and modulo 8 before any.
+    modulus: Option<LinkModulus>,
+    /// The pairs of stations that have them modulo 128.
     extended: Vec<Stations>,
 }
 
@@ -22,22 +24,24 @@ impl Model for Listener {
 
     ghost Value = { Listening };
 
-    ghost view = { λ l. record { modulo = l.modulo; extended = l.extended.items } };
+    ghost view = { λ l. record { modulus = l.modulus; extended = l.extended.items } };
 }
 
 impl Listener {
-    ghost use Rattle.std.specs.Prelude.{◌≡◌, ◌++◌, [], OnOk, if◌then◌else◌};
+    ghost use Rattle.std.specs.Prelude.{◌≡◌, ◌++◌, [], OnOk};
     ghost use Rattle.ax_frame.specs.Controls.{IsLinkModulus};
     ghost use Rattle.ax_frame.specs.Frames.{read_at, read_head_at};
     ghost use Rattle.frame_lines.specs.Hearing as hearing;
+    ghost use Rattle.radio_base.specs.Modulus.{modulus_size};
 
-    /// A listener that has heard nothing.
-    pub fn new(alloc: Global, modulo: Modulo) -> Listener
-        ensures { result ≡ record { modulo = modulo; extended = [] } }
+    /// A listener that has heard nothing. It reads sequence numbers by this modulus; without one, as the last set-up command between two
+    /// stations says.
+    pub fn new(alloc: Global, modulus: Option<LinkModulus>) -> Listener
+        ensures { result ≡ record { modulus = modulus; extended = [] } }
     {
         Listener {
             alloc,
-            modulo,
+            modulus,
             extended: Vec::new(alloc),
         }
     }
@@ -65,35 +69,34 @@ impl Listener {
     /// Takes the octets of a frame in.
     fn hear_frame(&mut self, port: u8, octets: &[u8], out: &mut TextOut) -> Result<(), NoMemory>
         ensures heard { OnOk result (self.new
-            ≡ (hearing.by_read self.old port (read_at (hearing.size_for self.old octets.now) octets.now)).0) }
+            ≡ (hearing.by_read self.old port (read_at (modulus_size (hearing.modulus_for self.old octets.now)) octets.now)).0) }
         ensures told { OnOk result (out.new
             ≡ out.old ++ (hearing.by_read self.old port
-            (read_at (hearing.size_for self.old octets.now) octets.now)).1) }
+            (read_at (modulus_size (hearing.modulus_for self.old octets.now)) octets.now)).1) }
     {
-        if self.is_extended(octets) {
-            self.hear_as::<M128>(port, octets, out)
-        } else {
-            self.hear_as::<M8>(port, octets, out)
+        match self.modulus_for(octets) {
+            LinkModulus::Modulo8 => self.hear_as::<M8>(port, octets, out),
+            LinkModulus::Modulo128 => self.hear_as::<M128>(port, octets, out),
         }
     }
 
-    /// Whether the octets of a frame are read with sequence numbers modulo 128.
-    fn is_extended(&self, octets: &[u8]) -> bool
-        ensures { hearing.size_for self.now octets.now ≡ (if result then 128 else 8) }
+    /// By which modulus the sequence numbers in the octets of a frame are read.
+    fn modulus_for(&self, octets: &[u8]) -> LinkModulus
+        ensures { result ≡ hearing.modulus_for self.now octets.now }
     {
-        match self.modulo {
-            Modulo::Auto => self.is_pair_extended(octets),
-            Modulo::M8 => false,
-            Modulo::M128 => true,
+        match self.modulus {
+            Some(modulus) => modulus,
+            None => self.modulus_between(octets),
         }
     }
 
-    fn is_pair_extended(&self, octets: &[u8]) -> bool
-        ensures { hearing.by_head (read_head_at octets.now) self.now.extended ≡ (if result then 128 else 8) }
+    /// That of the stations between which the frame goes.
+    fn modulus_between(&self, octets: &[u8]) -> LinkModulus
+        ensures { result ≡ hearing.by_head (read_head_at octets.now) self.now.extended }
     {
         match read_head(octets) {
-            Ok((head, _)) => is_extended(&head, &self.extended),
-            Err(_) => false,
+            Ok((head, _)) => LinkModulus::extended_if(is_extended(&head, &self.extended)),
+            Err(_) => LinkModulus::Modulo8,
         }
     }
 

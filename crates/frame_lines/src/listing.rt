@@ -1,4 +1,4 @@
-//! The line of one item of a KISS stream.
+//! The line of one item of a KISS stream. Called by `listener`, and by `tool_cmd`.
 ghost use Rattle.std.specs.Prelude.{◌≡◌, ◌++◌, ◌+◌, ◌≤◌, List, ℕ, length, Some, OnOk};
 ghost use Rattle.kiss_framing.specs.Feeding.{handed_out};
 ghost use Rattle.ax_frame.specs.Controls.{IsLinkModulus};

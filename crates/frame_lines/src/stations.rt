@@ -1,4 +1,4 @@
-//! Which stations count their sequence numbers modulo 128 (AX.25 2.2, sections 4.3.3.1 and 4.3.3.2).
+//! Which stations count their sequence numbers modulo 128 (AX.25 2.2, sections 4.3.3.1 and 4.3.3.2). Called by `listener`.
 ghost use Rattle.std.specs.Prelude.{◌≡◌, ◌++◌, filter, length, not, OnOk};
 ghost use Rattle.frame_lines.specs.Moduli as moduli;
 

@@ -3,12 +3,12 @@ ghost use Rattle.std.specs.Prelude.{◌≡◌, ◌++◌, OnOk, IfOk, string_byte
 ghost use Rattle.circuit_l4.specs.declared.transport.Flags.{Flags};
 ghost use Rattle.frame_lines.specs.TransportLines as lines;
 
-use crate::texts::shown_text;
 use crate::words::transport_fault;
 use ax_address::Call;
 use circuit_l4::{Flags, Pair, Transport, TransportRefusal, read_transport};
 use radio_base::{NoMemory, TextOut};
 use std::alloc::{AllocError, Global};
+use text_lines::shown_text;
 
 /// The transport that the octets spell, or why they spell none.
 pub(crate) fn write_transport_text(

@@ -4,3 +4,4 @@ pub mod ReadBack
 pub mod Runs
 pub mod Steps
 pub mod PlainRuns
+pub mod Handing

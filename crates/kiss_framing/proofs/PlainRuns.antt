@@ -1,5 +1,5 @@
 -- Bytes that aren't escaped, and those that follow.
-use Rattle.std.proofs.Common.{◌≡◌, ◌≤◌, ◌<◌, ◌+◌, ◌-◌, ◌++◌, ◌∙◌, ℕ, refl, sym, ap, List, [], ◌∷◌, length, take, drop, take_all, arith, append_assoc, length-append, length-drop}
+use Rattle.std.proofs.Common.{◌≡◌, ◌≤◌, ◌<◌, ◌+◌, ◌-◌, ◌++◌, ◌∙◌, ℕ, refl, sym, ap, List, [], ◌∷◌, length, take, drop, arith, append_assoc, length-append}
 use Rattle.std.specs.List.{flat_map, AllByRecursion}
 use Rattle.std.proofs.lemmas.List.{take-append-drop, take-append-le, length-take}
 use Rattle.std.proofs.lemmas.Grind.{flat_map-append}
@@ -21,9 +21,6 @@ pub no_room_for_run : (run bytes : List ℕ) (before room : ℕ) → AllByRecurs
 no_room_for_run run bytes before room plain front full =
     let first : flat_map escape_of (take (length run) bytes) ≡ run = ap (λ bs. flat_map escape_of bs) (sym front) ∙ escaped_run run plain in
     omega (arith, full, ap length first, ap length (escaped_parts (length run) bytes), length-append (flat_map escape_of (take (length run) bytes)) (flat_map escape_of (drop (length run) bytes)))
-
-pub rest_of : (n : ℕ) (xs : List ℕ) → take (length xs - n) (drop n xs) ≡ drop n xs
-rest_of n xs = take_all (length xs - n) (drop n xs) (omega (arith, length-drop n xs))
 
 pub front_kept : (start now more new : List ℕ) → new ≡ now ++ more → take (length start) now ≡ start → take (length start) new ≡ start
 front_kept start now more new e front =

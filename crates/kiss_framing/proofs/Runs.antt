@@ -1,5 +1,5 @@
 -- What a deframer holds and gives, by several bytes at a time.
-use Rattle.std.proofs.Common.{◌≡◌, ◌≢◌, ◌≤◌, ◌<◌, ◌+◌, ℕ, false, List, [], ◌∷◌, ◌++◌, length, take, refl, ap, sym, ◌∙◌, append_assoc, append-nil, length-append, length-take-le, take-append-drop, take_all, zero, suc, drop, get_or, drop-cons, arith, rules, add-one, take-add, length-drop, ◌-◌}
+use Rattle.std.proofs.Common.{◌≡◌, ◌≢◌, ◌≤◌, ◌<◌, ◌+◌, ℕ, false, List, [], ◌∷◌, ◌++◌, length, take, refl, ap, sym, ◌∙◌, append_assoc, append-nil, length-append, length-take-le, take-append-drop, take_all, zero, suc, drop, get_or, drop-cons, arith, rules, add-one, take-add, ◌-◌}
 use Rattle.std.proofs.lemmas.Grind.{common_steps}
 use Rattle.std.proofs.Math.Seq.{take-append-add}
 use Rattle.std.proofs.lemmas.List.{take-append-le, take_more}
@@ -98,10 +98,6 @@ fed_until held bytes count later given l =
       within = rw (l.cut) (omega (arith, l.counted, length-append l.front (l.last ∷ l.rest)));
       moves = λ h. omega (arith, l.counted);
     }
-
--- a slice from a place on is all that stands there
-pub rest_of : (n : ℕ) (bytes : List ℕ) → take (length bytes - n) (drop n bytes) ≡ drop n bytes
-rest_of n bytes = take_all (length bytes - n) (drop n bytes) (omega (arith, length-drop n bytes))
 
 -- one run of bytes behind another
 pub leads_on : (bytes : List ℕ) (taken count : ℕ) (held between later : HeldPiece) → Leads held (take taken bytes) between → Leads between (take count (drop taken bytes)) later → Leads held (take (taken + count) bytes) later

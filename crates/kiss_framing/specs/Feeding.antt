@@ -13,6 +13,11 @@ handed_out None = []
 handed_out (Some (kiss.Frame port command payload)) = Frame port command payload.now ∷ []
 handed_out (Some kiss.TooLong) = Too_long ∷ []
 
+-- an item of the code as such an item
+abbrev pub item_of : KissItem → Item
+item_of (kiss.Frame port command payload) = Frame port command payload.now
+item_of kiss.TooLong = Too_long
+
 -- the numbers of a frame, and its payload, are small
 abbrev pub IsSmall : KissItem → Type 0
 IsSmall (kiss.Frame port command payload) = (port ≤ 15) × (command ≤ 15) × (length payload.now ≤ 1023)

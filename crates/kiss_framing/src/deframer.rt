@@ -1,4 +1,4 @@
-//! A KISS stream becomes frames.
+//! A KISS stream becomes frames. Called by `node_core` and `cmd_streams`.
 ghost use Rattle.std.specs.Prelude.{◌≡◌, ℕ, ◌≤◌, List, [], ◌∷◌, ◌++◌, ◌<◌, length, take, IfSome, IfNone};
 ghost use Rattle.kiss_framing.specs.Stream.{items, given_by_byte, frame_of as frame_in, StandsFor, kept, pending_of};
 ghost use Rattle.kiss_framing.specs.Stepping.{items_at};

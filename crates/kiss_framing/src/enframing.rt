@@ -1,4 +1,4 @@
-//! A frame becomes KISS bytes.
+//! A frame becomes KISS bytes. Called by `cmd_streams`.
 ghost use Rattle.std.specs.Prelude.{◌≡◌, ℕ, ◌≤◌, ◌+◌, ◌*◌, ◌<◌, List, ◌++◌, ◌∷◌, [], ◌↔◌, length, take, OnOk, OnErr, IfOk, IsOk};
 ghost use Rattle.std.specs.List.{flat_map};
 ghost use Rattle.kiss_framing.specs.Stream.{escape_of, octets_of, framed, Frame, items};

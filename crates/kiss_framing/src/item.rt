@@ -1,4 +1,4 @@
-//! What a KISS stream gives.
+//! What a KISS stream gives. Used by `deframer`, and by `node_core`, `cmd_streams` and crates above.
 
 /// What a stream gives.
 #[derive(Clone, Copy, Debug, PartialEq, Eq)]

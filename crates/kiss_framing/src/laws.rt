@@ -1,4 +1,4 @@
-//! What holds of every stream and every frame.
+//! What holds of every stream and every frame. Called by `feeding` of `node_core`, and by the laws of the replay.
 ghost use Rattle.std.specs.Prelude.{◌≡◌};
 ghost use Rattle.kiss_framing.specs.Laws.{BytesAdd, FendEnds, FendParts, FramesReadBack, LongFramesAreTooLong};
 

@@ -1,37 +1,13 @@
 -- In a network of carriers in memory each pair that waits was offered.
 use Rattle.std.proofs.Common.{◌≡◌, ℕ, zero, suc, refl, sym, subst, List, [], ◌∷◌, drop, Some, slice_get, Bool, true, false, arith, inl, inr}
-use Rattle.std.specs.Prelude.{Contains, ◌⊎◌, ◌&&◌, nat_eq, if◌then◌else◌}
-use Rattle.std.specs.Cmp.Lexicographic.{pointwise}
-use Rattle.std.proofs.lemmas.Bool.{eqb-true}
+use Rattle.std.specs.Prelude.{Contains, ◌⊎◌, if◌then◌else◌}
 use Rattle.std.proofs.lemmas.List.Elements.{Contains-append_right, Contains-push_cases}
 use Rattle.ax_address.specs.Callsign.{Callsign, same_call}
+use Rattle.ax_address.proofs.SameCalls.{same_call-true}
 use Rattle.l3_datagram.specs.declared.carrier.Offered.TheVariants.{Taken, Dropped}
 use Rattle.l3_datagram.specs.Datagrams.{Parcel, Offer, Collect, Fail}
 use Rattle.l3_datagram.specs.PlainCarriers.{Plain}
 use Rattle.l3_datagram.specs.Network.{Act, Called, Brought, Fetched, Event, after_act, carrier_of, Happens, History, WasOffered, WaitingWasOffered}
-
-and_true : (a b : Bool) → (a && b) ≡ true → (a ≡ true) × (b ≡ true)
-and_true true true h = (refl, refl)
-and_true true false h = absurd (cc)
-and_true false b h = absurd (cc)
-
-same_letters : (xs ys : List ℕ) → pointwise nat_eq xs ys ≡ true → xs ≡ ys
-same_letters [] [] h = refl
-same_letters [] (y ∷ ys) h = absurd (cc)
-same_letters (x ∷ xs) [] h = absurd (cc)
-same_letters (x ∷ xs) (y ∷ ys) h =
-    let p = and_true (nat_eq x y) (pointwise nat_eq xs ys) h in
-    let e : x ≡ y = eqb-true x y p.0 in
-    let f : xs ≡ ys = same_letters xs ys p.1 in
-    cc
-
--- calls that compare equal are equal
-same_call-true : (a b : Callsign) → same_call a b ≡ true → a ≡ b
-same_call-true a b h =
-    let p = and_true (pointwise nat_eq a.letters b.letters) (nat_eq a.ssid b.ssid) h in
-    let e : a.letters ≡ b.letters = same_letters a.letters b.letters p.0 in
-    let f : a.ssid ≡ b.ssid = eqb-true a.ssid b.ssid p.1 in
-    λ i. record { letters = e i; ssid = f i }
 
 module _ {X : Type 0} where
   -- what is in a list is in a longer one

@@ -15,7 +15,7 @@ doubled_six c octets h =
     length-map c.letters (λ b. 2 * b) ∙ (ap length h.is_call.spaces ∙ six)
 
 -- a call is spelled by seven octets
-seven : (c : Callsign) (octets : List ℕ) → SpellsNetCall c octets → length octets ≡ 7
+pub seven : (c : Callsign) (octets : List ℕ) → SpellsNetCall c octets → length octets ≡ 7
 seven c octets h =
     let doubled : length (map (λ b. 2 * b) c.letters) ≡ 6 = doubled_six c octets h in
     ap length h.spelled ∙ omega (arith, length-append (map (λ b. 2 * b) c.letters) (h.last ∷ []), doubled)

@@ -1,4 +1,5 @@
-//! Datagrams in octets (NET/ROM, Appendix B, level 3).
+//! Datagrams in octets (NET/ROM, Appendix B, level 3). Called by `carrier`, `plain_carrier`, `routed` and `router`, and by `circuit_l4`,
+//! `circuit_table` and crates above.
 ghost use Rattle.std.specs.Prelude.{◌≡◌, ◌+◌, ◌<◌, ◌≤◌, ◌↔◌, List, ℕ, Ok, length, take, drop, IfOk, IsOk, IsErr};
 ghost use Rattle.ax_address.specs.Octets.{SpellsNetCall};
 ghost use Rattle.l3_datagram.specs.Datagrams as octet;

@@ -1,4 +1,4 @@
-//! What the definitions promise by themselves.
+//! Laws of the definitions of datagrams and of a router's step alone. Called by the circuits' `pump`, and by the laws of `node_core`.
 ghost use Rattle.l3_datagram.specs.Datagrams.{SpelledDatagramIsRead, WrittenAgainIsTheSame, WrittenDatagramSpellsIt};
 ghost use Rattle.l3_datagram.specs.Faults.{FaultIsFirst};
 ghost use Rattle.l3_datagram.specs.Onward.{GoesOneHopOn};

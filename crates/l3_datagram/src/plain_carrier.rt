@@ -1,4 +1,4 @@
-//! A carrier in memory.
+//! A carrier in memory. Called by tests, and by what `bench/` drives.
 ghost use Rattle.std.specs.Prelude.{◌≡◌, ◌<◌, [], ◌∷◌, slice_get, IfOk, OnOk, OnErr, refl};
 ghost use Rattle.l3_datagram.specs.PlainCarriers.{Plain, Made, brought, fetched, lost_of, offer_answer};
 ghost use Rattle.l3_datagram.specs.Datagrams.{Offer};

@@ -1,4 +1,4 @@
-//! What came up at a node, and what became of it.
+//! What came up at a node, and what became of it. Used by `router`, and by `circuit_table`, the replay and `trace_lines`.
 use crate::Datagram;
 use ax_address::Call;
 

@@ -1,4 +1,4 @@
-//! The routing step of a node (NET/ROM, Appendix B, level 3).
+//! The routing step of a node (NET/ROM, Appendix B, level 3). Called by `circuit_table` and `node_core`.
 ghost use Rattle.std.specs.Prelude.{◌≡◌, ◌≤◌, ◌↔◌, drop, length, IfOk, IsErr, IsTrue, true, false, None, [], ◌∷◌};
 ghost use Rattle.std.specs.Borrow.{Lends, sem};
 

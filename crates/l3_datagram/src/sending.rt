@@ -1,4 +1,4 @@
-//! What became of a datagram of this node.
+//! What became of a datagram of this node. Used by `router`, and by `circuit_table`.
 
 /// What became of a datagram of this node.
 #[derive(Clone, Copy, Debug, PartialEq, Eq)]

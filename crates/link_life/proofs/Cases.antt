@@ -1,5 +1,5 @@
 -- What a step of a link can be, where only frames come that links put out.
-use Rattle.std.proofs.Common.{◌≡◌, ◌⊎◌, inl, inr, ◌≤◌, ◌+◌, ℕ, zero, suc, min, Bool, true, false, ◌&&◌, nat_eq, nat_le, if◌then◌else◌, List, [], ◌∷◌, ◌++◌, length, drop, replicate, Option, Some, None, refl, ap, sym, ◌∙◌, subst, arith, append-nil}
+use Rattle.std.proofs.Common.{◌≡◌, ◌⊎◌, inl, inr, ◌≤◌, ◌+◌, ℕ, suc, min, Bool, true, false, ◌&&◌, nat_eq, nat_le, if◌then◌else◌, List, [], ◌∷◌, ◌++◌, length, drop, Option, Some, None, refl, ap, sym, ◌∙◌, subst, arith, append-nil}
 use Rattle.std.proofs.lemmas.Bool.Decides.{nat_tests}
 use Rattle.std.specs.List.{AllByRecursion}
 use Rattle.std.specs.Option.{option_to_list}
@@ -15,8 +15,9 @@ use Rattle.ax_link.specs.Laws.{notice_of}
 use Rattle.ax_link.specs.Moves.{fill, start_poll}
 use Rattle.ax_link.specs.Pair.{Both, Core, IsNew, NoRestartIn, core, opens, reach}
 use Rattle.ax_link.specs.Runs.{sets_up}
-use Rattle.ax_link.specs.State.{Effect, Frame, State, begin, count_end, is_up, t1_runs, t3_at, top}
+use Rattle.ax_link.specs.State.{Effect, Frame, State, begin, count_end, is_up, t1_runs, t3_at}
 use Rattle.ax_link.specs.Table.{Input, Set_up, Send, Arrive, Tick, Close, Take, accept, arrive_down, arrive_releasing, arrive_setting_up, come_up, fail, refuse_if, retry, step, takes}
+use Rattle.ax_link.proofs.RunStates.{top_none}
 use Rattle.link_life.specs.Ends.{any_begins, is_of_account}
 use Rattle.link_life.proofs.Known.{Known}
 
@@ -120,10 +121,6 @@ pub record Step (s : State) (i : Input) (now : ℕ) (g : Effect) : Type 0 where
 pub one_answer : (pf : Bool) → ◌≤◌ (if pf then 1 else 0) 1
 one_answer true = omega arith
 one_answer false = omega arith
-
-top_none : (n : ℕ) → top (replicate n None) ≡ 0
-top_none zero = refl
-top_none (suc n) = ap (λ t. if nat_eq t 0 then 0 else suc t) (top_none n)
 
 pub same_both : (s t : State) → core t ≡ core s → KeepsBoth s t
 same_both s t e other to_s to_other b = subst (λ c. Both c other to_s to_other) (sym e) b

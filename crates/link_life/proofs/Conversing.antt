@@ -1,5 +1,6 @@
 -- A conversation goes on, begins, and fails to begin.
 use Rattle.std.proofs.Common.{◌≡◌, ◌⊎◌, inl, inr, ◌<◌, ℕ, suc, false, List, [], ◌++◌, length, Some, slice_get, refl, ap, sym, ◌∙◌, subst, arith, length-append}
+use Rattle.radio_base.proofs.Each.{each_append}
 use Rattle.ax_link.specs.declared.phase.LinkPhase.TheVariants.{SettingUp}
 use Rattle.ax_link.specs.Pair.{Both, Core, IsNew, core, opens}
 use Rattle.ax_link.specs.State.{Frame}
@@ -8,7 +9,6 @@ use Rattle.link_life.specs.Laws.{EpochSafe}
 use Rattle.link_life.proofs.Cases.{IsFresh, KeepsBoth}
 use Rattle.link_life.proofs.Known.{Known}
 use Rattle.link_life.proofs.Sounding.{behind_more, both_quiet, frames_both, hears_none, none_back, none_left, none_right}
-use Rattle.link_life.proofs.Timing.{all_both}
 use Rattle.link_life.proofs.Talks.{Apart, Hears, IsGone, IsNext, IsNone, NoneIn, OfEpoch, Part, Rest, Stand, Talk, behind_ua, frames_in, get_in, none_lasts}
 
 abbrev pub more_coming : End → List Flight → End
@@ -17,7 +17,7 @@ more_coming y sent = record y { coming = y.coming ++ sent }
 -- ---- more is under way to an end
 
 apart_more : (y : End) (sent : List Flight) → (y.link.phase ≡ SettingUp → NoneIn opens sent) → Apart y → Apart (more_coming y sent)
-apart_more y sent n a = record { up = a.up; setting = λ e. all_both (λ f. opens f.frame.kind ≡ false) y.coming sent (a.setting e) (n e) }
+apart_more y sent n a = record { up = a.up; setting = λ e. each_append (λ f. opens f.frame.kind ≡ false) y.coming sent (a.setting e) (n e) }
 
 record Grown (y : End) (q : Part) (heard : List ℕ) (sent : List Flight) : Type 0 where
   hears : List Flight
@@ -48,7 +48,7 @@ grown_sound known c d xs q hears sent (inl e) b = subst (λ fs. Both c d xs (fra
 grown_sound known c d xs q hears sent (inr e) b = subst (λ fs. Both c d xs (frames_in fs)) (sym e.1) (none_right known c d xs (frames_in q ++ frames_in sent) b)
 
 grown_hears : (n : ℕ) (q hears sent : List Flight) → (hears ≡ q ++ sent) ⊎ ((q ≡ []) × (hears ≡ [])) → Hears n q → Hears n sent → Hears n hears
-grown_hears n q hears sent (inl e) a b = subst (Hears n) (sym e) (all_both _ q sent a b)
+grown_hears n q hears sent (inl e) a b = subst (Hears n) (sym e) (each_append _ q sent a b)
 grown_hears n q hears sent (inr e) a b = subst (Hears n) (sym e.1) tt
 
 -- ---- the near end has made a step

@@ -2,6 +2,7 @@
 use Rattle.std.proofs.Common.{◌≡◌, ◌⊎◌, inl, inr, ◌≤◌, ◌<◌, ◌+◌, ◌*◌, ◌-◌, min, ℕ, suc, Bool, true, false, if◌then◌else◌, List, [], ◌∷◌, ◌++◌, Option, Some, None, refl, ap, sym, subst, arith}
 use Rattle.std.proofs.lemmas.Bool.Decides.{nat_tests}
 use Rattle.std.specs.List.{AllByRecursion}
+use Rattle.radio_base.proofs.Each.{each_append}
 use Rattle.ax_link.specs.declared.kind.Kind.{Kind}
 use Rattle.ax_link.specs.declared.kind.Kind.TheVariants as kind
 use Rattle.ax_link.specs.declared.phase.LinkPhase.{LinkPhase}
@@ -11,12 +12,12 @@ use Rattle.ax_link.specs.Pair.{opens}
 use Rattle.ax_link.specs.Runs.{sets_up}
 use Rattle.ax_link.specs.State.{Frame, count_end}
 use Rattle.ax_link.specs.Table.{Input, Set_up, Send, Arrive, Tick, Close, Take}
+use Rattle.ax_link.proofs.PairSteps.{NoArrival}
 use Rattle.link_life.specs.Ends.{Flight, flights, is_of_account}
 use Rattle.link_life.specs.Laws.{AllInTime}
 use Rattle.link_life.specs.Lives.{is_early, pause}
 use Rattle.link_life.proofs.Cases.{NoneOf, answers, answers_in, asked_by, asks}
 use Rattle.link_life.proofs.Sounding.{none_sent}
-use Rattle.link_life.proofs.Timing.{all_both}
 use Rattle.link_life.proofs.Talks.{NoneIn}
 
 -- such frames were sent by then
@@ -89,7 +90,7 @@ none_set_in [] a = tt
 none_set_in (f ∷ fs) a = (asks_sets f.frame.kind a.0, none_set_in fs a.1)
 
 pub none_more : (test : Kind → Bool) (now epoch : ℕ) (going : List Flight) (outs : List Frame) → NoneIn test going → NoneOf test outs → NoneIn test (going ++ flights now epoch outs)
-none_more test now epoch going outs a b = all_both (λ f. test f.frame.kind ≡ false) going (flights now epoch outs) a (none_sent test now epoch outs b)
+none_more test now epoch going outs a b = each_append (λ f. test f.frame.kind ≡ false) going (flights now epoch outs) a (none_sent test now epoch outs b)
 
 -- ---- counts
 
@@ -141,10 +142,6 @@ none_answers (f ∷ fs) l = let b = by (answers f.kind) refl l in (b.0, none_ans
     by false e r = (e, r)
 
 -- ---- what an end takes
-
-abbrev pub NoArrival : Input → Type 0
-NoArrival (Arrive f) = ⊥
-NoArrival _ = Unit {0}
 
 -- a call or a tick, or the oldest frame
 abbrev pub Taken : Input → List Flight → List Flight → Type 0

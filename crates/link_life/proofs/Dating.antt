@@ -1,6 +1,7 @@
 -- The dates of what is under way, after a step of one end.
 use Rattle.std.proofs.Common.{◌≡◌, ◌⊎◌, inl, inr, ◌≤◌, ◌+◌, min, ℕ, suc, Bool, true, false, List, [], ◌∷◌, ◌++◌, Option, Some, None, refl, ap, sym, ◌∙◌, subst, arith}
 use Rattle.std.specs.List.{AllByRecursion}
+use Rattle.radio_base.proofs.Each.{each_append}
 use Rattle.ax_link.specs.declared.kind.Kind.{Kind}
 use Rattle.ax_link.specs.declared.phase.LinkPhase.{LinkPhase}
 use Rattle.ax_link.specs.declared.phase.LinkPhase.TheVariants.{Down, SettingUp, Up, Releasing}
@@ -13,7 +14,6 @@ use Rattle.link_life.specs.Lives.{pause}
 use Rattle.link_life.proofs.Cases.{NoneOf, answers, asks, set_up_frame}
 use Rattle.link_life.proofs.Dates.{Answered, Asking, Clear, Dated, Rested, SentBy, Taken, all_rest, asked_sent, count_in, count_both, count_less, count_none, count_one, count_rest, count_sent, none_answers, none_counted, none_more, none_set, none_set_in}
 use Rattle.link_life.proofs.Sounding.{none_sent}
-use Rattle.link_life.proofs.Timing.{all_both}
 use Rattle.link_life.proofs.Talks.{NoneIn}
 
 -- ---- of the end that made the step; rest is what is still under way to it
@@ -28,7 +28,7 @@ rests_dated i t1 now delay epoch None coming rest going outs k n d =
     (none_more sets_up now epoch going outs d.0 (none_set outs n), (none_more asks now epoch going outs d.1.0 n, all_rest (λ f. answers f.frame.kind ≡ false) i coming rest k d.1.1))
 rests_dated i t1 now delay epoch (Some t) coming rest going outs k n d = (
   none_more sets_up now epoch going outs d.0 (none_set outs n),
-  (d.1.0, (all_both _ going (flights now epoch outs) d.1.1.0 (none_sent_by asks t now epoch outs n), all_rest _ i coming rest k d.1.1.1)),
+  (d.1.0, (each_append _ going (flights now epoch outs) d.1.1.0 (none_sent_by asks t now epoch outs n), all_rest _ i coming rest k d.1.1.1)),
 )
 
 -- it sent a set-up command, and nothing old is under way
@@ -42,7 +42,7 @@ asks_anew t1 now delay epoch coming going e c =
       since = now;
       past = omega arith;
       t1 = e;
-      asked = all_both _ going (flights now epoch (set_up_frame ∷ [])) (none_asked going c.going) (λ q. (refl, omega arith), tt);
+      asked = each_append _ going (flights now epoch (set_up_frame ∷ [])) (none_asked going c.going) (λ q. (refl, omega arith), tt);
       answered = none_answered coming c.coming;
       few = omega (arith, set, ans, both);
     }
@@ -67,7 +67,7 @@ asks_still i t1 now delay epoch coming rest going outs k n a =
       since = a.since;
       past = a.past;
       t1 = a.t1;
-      asked = all_both _ going (flights now epoch outs) a.asked (none_asked outs n);
+      asked = each_append _ going (flights now epoch outs) a.asked (none_asked outs n);
       answered = all_rest _ i coming rest k a.answered;
       few = omega (arith, more, none, less, few);
     }
@@ -121,7 +121,7 @@ rested i None now delay epoch coming going rest outs k j (inl z) r =
 rested i None now delay epoch coming going rest outs k j (inr a) r =
     let n = (subst (NoneIn asks) a.1 r.0).0 in absurd (cc (n, a.2))
 rested i (Some t) now delay epoch coming going rest outs k j a r =
-    (r.0, (all_rest _ i going rest k r.1.0, all_both _ coming (flights now epoch outs) r.1.1 (late_by t now delay epoch going rest outs j r.1.0 a)))
+    (r.0, (all_rest _ i going rest k r.1.0, each_append _ coming (flights now epoch outs) r.1.1 (late_by t now delay epoch going rest outs j r.1.0 a)))
 
 asking : (i : Input) (t1 now delay epoch : ℕ) (coming going rest : List Flight) (outs : List Frame) → Taken i going rest → AllInTime now delay going → Answered going rest outs →
     Asking t1 now delay coming going → Asking t1 now delay (coming ++ flights now epoch outs) rest
@@ -131,7 +131,7 @@ asking i t1 now delay epoch coming going rest outs k j a d =
       past = d.past;
       t1 = d.t1;
       asked = all_rest _ i going rest k d.asked;
-      answered = all_both _ coming (flights now epoch outs) d.answered (late_by d.since now delay epoch going rest outs j (asked_sent d.since going d.asked) a);
+      answered = each_append _ coming (flights now epoch outs) d.answered (late_by d.since now delay epoch going rest outs j (asked_sent d.since going d.asked) a);
       few = by a;
     }
   where

@@ -3,7 +3,7 @@ use Rattle.std.proofs.Common.{◌≡◌, ℕ, List, [], ◌∷◌, ◌++◌, dro
 use Rattle.std.specs.List.{flat_map}
 use Rattle.std.proofs.lemmas.List.{map-append}
 use Rattle.ax_link.specs.declared.out.LinkOut.{LinkOut}
-use Rattle.ax_link.specs.Standing.{LinkView, frame_of}
+use Rattle.ax_link.specs.Standing.{frame_of}
 use Rattle.link_life.specs.declared.act.Side.{Side}
 use Rattle.link_life.specs.declared.flight.Flight.{Flight as FlightKept}
 use Rattle.link_life.specs.Ends.{Flight, flights}
@@ -48,8 +48,3 @@ flight_out size now epoch out old new cs ds first rest one =
         let same : x ≡ out = cc e in
         append_assoc (map (flight_of size) cs) (flight_of size (record { sent = now; epoch = epoch; out = out }) ∷ []) (flights_of size now epoch xs)
         ∙ ap (λ (y : LinkOut). map (flight_of size) cs ++ flight_of size (record { sent = now; epoch = epoch; out = y }) ∷ flights_of size now epoch xs) (sym same)
-
--- all but the frames stays
-pub outs_alone : (old mid new : LinkView) → mid ≡ record old { outs = mid.outs } → new ≡ record mid { outs = drop 1 mid.outs } → new ≡ record old { outs = new.outs }
-outs_alone old mid new first next =
-    next ∙ ap (λ (h : LinkView). record h { outs = drop 1 mid.outs }) first ∙ ap (λ xs. record old { outs = xs }) (sym (ap (λ (h : LinkView). h.outs) next))

@@ -1,22 +1,23 @@
 -- Each step of the near end leaves what is known of the two ends.
 use Rattle.std.proofs.Common.{◌≡◌, ◌⊎◌, inl, inr, ◌≤◌, min, ℕ, true, false, List, [], ◌∷◌, ◌++◌, length, Option, Some, refl, ap, sym, ◌∙◌, subst, arith, length-append}
 use Rattle.std.specs.List.{AllByRecursion}
+use Rattle.radio_base.proofs.Each.{each_append}
 use Rattle.ax_link.specs.declared.phase.LinkPhase.TheVariants.{SettingUp, Up}
 use Rattle.ax_link.specs.Pair.{NoRestartIn, core, opens}
 use Rattle.ax_link.specs.Runs.{sets_up}
 use Rattle.ax_link.specs.State.{Frame, Rules, count_end}
 use Rattle.ax_link.specs.Table.{Input, Arrive, Set_up, Send, Tick, Close, Take, step}
+use Rattle.ax_link.proofs.PairSteps.{NoArrival}
 use Rattle.link_life.specs.Ends.{End, Flight, heard_more, is_of_account}
 use Rattle.link_life.specs.Laws.{IsFrom}
 use Rattle.link_life.specs.Lives.{is_early}
 use Rattle.link_life.proofs.Beginning.{heard_one}
 use Rattle.link_life.proofs.Cases as cases
-use Rattle.link_life.proofs.Cases.{Case, IsFresh, MayCome, NoneOf, OpensOnlyAsked, StaysUnopened, Step, answers, answers_in, asked_by, asks, goes_out, step_is}
-use Rattle.link_life.proofs.Dates.{NoArrival, Taken, first_same, sets_account}
+use Rattle.link_life.proofs.Cases.{Case, IsFresh, MayCome, NoneOf, OpensOnlyAsked, StaysUnopened, answers, asks, step_is}
+use Rattle.link_life.proofs.Dates.{Taken, first_same, sets_account}
 use Rattle.link_life.proofs.Known.{Known}
 use Rattle.link_life.proofs.Leaving.{comes_on, ends_on, fails_on, idles_on, leaves_on, restart_sets, up_on}
 use Rattle.link_life.proofs.Stepping.{begins_on, came, crosses_on, opens_asked, rests_on, retries_on, starts_on, waits_on}
-use Rattle.link_life.proofs.Timing.{all_both}
 use Rattle.link_life.proofs.Talks.{IsUp, NoneIn, OfEpoch, Stand}
 use Rattle.link_life.proofs.Turning.{Settled, Sound, SoundAfter, Stepped, quiet_going, up_of}
 use Rattle.link_life.proofs.Untouched.{NotHeard, fresh_stays}
@@ -139,7 +140,7 @@ module _ (known : Known) (set : Rules) (now delay : ℕ) (settled : Settled set 
       stands = heard_one y s.talk.far s.talk.near.heard f.epoch s.talk.two.stand from not_setting
 
       of : OfEpoch s.talk.far.number (s.talk.near.heard ++ f.epoch ∷ [])
-      of = all_both (IsFrom s.talk.far.number) s.talk.near.heard (f.epoch ∷ []) s.talk.one.heard (from, tt)
+      of = each_append (IsFrom s.talk.far.number) s.talk.near.heard (f.epoch ∷ []) s.talk.one.heard (from, tt)
 
       some : s.talk.near.heard ++ f.epoch ∷ [] ≡ [] → IsFresh (core (step x.link i now).link)
       some e = let l = ap length e in absurd (omega (arith, l, length-append s.talk.near.heard (f.epoch ∷ [])))

@@ -1,5 +1,6 @@
 -- A step of an end that fails to come up, comes up, is Up, or releases.
 use Rattle.std.proofs.Common.{◌≡◌, ◌⊎◌, inl, inr, ◌≤◌, min, ℕ, suc, true, false, not, ◌&&◌, List, [], ◌∷◌, ◌++◌, length, Option, Some, slice_get, refl, ap, sym, ◌∙◌, subst, arith, append-nil}
+use Rattle.radio_base.proofs.Each.{each_append}
 use Rattle.ax_link.specs.declared.kind.Kind.{Kind}
 use Rattle.ax_link.specs.declared.kind.Kind.TheVariants as kind
 use Rattle.ax_link.specs.declared.phase.LinkPhase.{LinkPhase}
@@ -9,6 +10,7 @@ use Rattle.ax_link.specs.Pair.{Both, IsNew, NoRestart, NoRestartIn, Queue, core,
 use Rattle.ax_link.specs.Runs.{sets_up}
 use Rattle.ax_link.specs.State.{Effect, Rules, count_end}
 use Rattle.ax_link.specs.Table.{Input, Arrive, Set_up, Send, Tick, Close, Take, step}
+use Rattle.ax_link.proofs.Ways.{get_more}
 use Rattle.link_life.specs.Ends.{End, Epoch, Flight, any_begins, epochs, flights, is_down, is_of_account, lasting, number}
 use Rattle.link_life.specs.Laws.{AllInTime}
 use Rattle.link_life.proofs.Beginning.{After, begun, next_opens, on_phase, up_goes}
@@ -19,8 +21,8 @@ use Rattle.link_life.proofs.Dating.{answer_came, down_dated, on_dated}
 use Rattle.link_life.proofs.Known.{Known}
 use Rattle.link_life.proofs.Sounding.{frames_sent, hears_sent, none_sent}
 use Rattle.link_life.proofs.Stepping.{behind_first, came, carries_opens, lasting_core, made, none_lasting, off_talk, opens_asked}
-use Rattle.link_life.proofs.Talks.{Apart, Hears, IsNext, IsUp, NoneIn, OfEpoch, Stand, Talk, behind_ua, epoch_of, frames_in, get_end, get_more, get_other}
-use Rattle.link_life.proofs.Timing.{all_both, set_out}
+use Rattle.link_life.proofs.Talks.{Apart, Hears, IsNext, IsUp, NoneIn, OfEpoch, Stand, Talk, behind_ua, epoch_of, frames_in, get_end, get_other}
+use Rattle.link_life.proofs.Timing.{set_out}
 use Rattle.link_life.proofs.Turning.{Lasts, Settled, Sound, SoundAfter, Stepped, apart_of, asking_of, down_test, ended, far_quiet, near_begins, near_ends, near_stays, next_or_off, off_of, quiet_going, up_of}
 
 pub restart_sets : (k : Kind) → NoRestart k → sets_up k ≡ false
@@ -54,7 +56,7 @@ nil_more over e = get_more (over ++ e ∷ []) [] (length over) e (get_end over e
 module _ (known : Known) (set : Rules) (now delay : ℕ) (settled : Settled set delay) (x y : End) (s : Sound set now delay (record { near = x; far = y })) (i : Input) (rest : List Flight) (taken : Taken i x.coming rest)
     (g : Effect) (stepped : Stepped set now x i g) where
   in_time : (epoch : ℕ) → AllInTime now delay (y.coming ++ flights now epoch g.outs)
-  in_time epoch = all_both _ y.coming (flights now epoch g.outs) s.far_time (set_out now delay epoch g.outs)
+  in_time epoch = each_append _ y.coming (flights now epoch g.outs) s.far_time (set_out now delay epoch g.outs)
 
   -- it is Down now, and its epoch, if it had one, is over
   down_made : (heard : Option (List ℕ)) → g.link.phase ≡ Down → any_begins g.notes ≡ false → (not (is_down x.link.phase) && is_down g.link.phase) ≡ true →

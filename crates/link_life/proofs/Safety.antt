@@ -11,6 +11,7 @@ use Rattle.ax_link.specs.Pair.{IsNew, core}
 use Rattle.ax_link.specs.State.{Rules, is_up}
 use Rattle.ax_link.specs.Table as table
 use Rattle.ax_link.specs.Table.{Input, step}
+use Rattle.ax_link.proofs.PairSteps.{NoArrival}
 use Rattle.link_life.specs.declared.act.Side.{Side}
 use Rattle.link_life.specs.declared.act.Side.TheVariants.{A, B}
 use Rattle.link_life.specs.declared.act.EndAct.{EndAct}
@@ -24,7 +25,7 @@ use Rattle.link_life.specs.Laws.{AllInTime, LivesAreSafe}
 use Rattle.link_life.specs.Lives.{Done, Life, Outcome, Refused, Turn, act_near, act_on, after_act, arrive_first, clock_end, ends_at, is_early, is_late, lifted, lose_first, moved, new_end, new_life, run, send_refusal, set_up_refusal, settings, take_first, tick_at, tick_both, tick_to, turn_at, unless}
 use Rattle.link_life.proofs.Beginning.{loses}
 use Rattle.link_life.proofs.Cases.{MayCome, goes_out}
-use Rattle.link_life.proofs.Dates.{Asking, Dated, NoArrival, opens_answers}
+use Rattle.link_life.proofs.Dates.{Asking, Dated, opens_answers}
 use Rattle.link_life.proofs.Dating.{answer_came, dated_later, lost_coming, lost_going}
 use Rattle.link_life.proofs.Hearing.{NotAccount, step_sound}
 use Rattle.link_life.proofs.Known.{Known}

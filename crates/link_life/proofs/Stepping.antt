@@ -1,6 +1,7 @@
 -- A step of the near end leaves what is known of the two ends, where its epoch hears nothing.
 use Rattle.std.proofs.Common.{◌≡◌, ◌⊎◌, inl, inr, ◌≤◌, ◌+◌, min, ℕ, suc, Bool, true, false, not, ◌&&◌, if◌then◌else◌, List, [], ◌∷◌, ◌++◌, length, Option, Some, None, refl, ap, sym, ◌∙◌, subst}
 use Rattle.std.specs.List.{AllByRecursion}
+use Rattle.radio_base.proofs.Each.{each_append}
 use Rattle.ax_link.specs.declared.kind.Kind.{Kind}
 use Rattle.ax_link.specs.declared.kind.Kind.TheVariants as kind
 use Rattle.ax_link.specs.declared.phase.LinkPhase.TheVariants.{Down, SettingUp, Up}
@@ -21,7 +22,7 @@ use Rattle.link_life.proofs.Dating.{asks_anew, asks_still, on_dated, other_dated
 use Rattle.link_life.proofs.Known.{Known}
 use Rattle.link_life.proofs.Sounding.{none_sent}
 use Rattle.link_life.proofs.Talks.{Apart, IsNext, NoneIn, Talk, behind_ua}
-use Rattle.link_life.proofs.Timing.{all_both, set_out}
+use Rattle.link_life.proofs.Timing.{set_out}
 use Rattle.link_life.proofs.Turning.{DatedEnd, Lasts, Settled, Sound, SoundAfter, Stepped, all_go_out, apart_of, asker, asking_of, down_test, near_begins, near_stays, next_or_off, none_opens, off_of, quiet_going}
 
 -- ---- small facts
@@ -80,10 +81,10 @@ module _ (known : Known) (set : Rules) (now delay : ℕ) (settled : Settled set 
           bounded = s.far.bounded;
           lasts = s.far.lasts;
           new = s.far.new;
-          kinds = all_both (λ f. goes_out f.frame.kind ≡ true) y.coming (flights now epoch outs) s.far.kinds (all_go_out x.link.phase now epoch outs stepped.kinds);
+          kinds = each_append (λ f. goes_out f.frame.kind ≡ true) y.coming (flights now epoch outs) s.far.kinds (all_go_out x.link.phase now epoch outs stepped.kinds);
         };
         near_time = subst (AllInTime now delay) (sym c) (all_rest _ i x.coming rest taken s.near_time);
-        far_time = all_both _ y.coming (flights now epoch outs) s.far_time (set_out now delay epoch outs);
+        far_time = each_append _ y.coming (flights now epoch outs) s.far_time (set_out now delay epoch outs);
         near_dates = subst (λ fs. Dated x2.link.phase x2.link.t1_at x2.down_since now delay fs (y.coming ++ flights now epoch outs)) (sym c) d;
         far_dates = subst (λ fs. Dated y.link.phase y.link.t1_at y.down_since now delay (y.coming ++ flights now epoch outs) fs) (sym c)
             (other_dated i y.link.phase y.link.t1_at now delay epoch y.down_since y.coming x.coming rest outs taken s.near_time came s.far_dates);

@@ -1,10 +1,12 @@
 -- Two ends in a conversation: an epoch of one and an epoch of the other, which are partners once they hear of each other.
-use Rattle.std.proofs.Common.{◌≡◌, ◌⊎◌, inl, inr, ◌≤◌, ◌<◌, ℕ, zero, suc, Bool, true, false, if◌then◌else◌, List, [], ◌∷◌, ◌++◌, length, map, Option, Some, None, slice_get, refl, ap, sym, ◌∙◌, subst, arith, append-nil}
+use Rattle.std.proofs.Common.{◌≡◌, ◌⊎◌, inl, inr, ◌<◌, ℕ, zero, suc, Bool, true, false, if◌then◌else◌, List, [], ◌∷◌, ◌++◌, length, map, Option, Some, None, slice_get, refl, ap, sym, ◌∙◌, subst, arith, append-nil}
 use Rattle.std.specs.List.{AllByRecursion}
+use Rattle.std.proofs.lemmas.List.{nil_from_length}
 use Rattle.ax_link.specs.declared.kind.Kind.{Kind}
 use Rattle.ax_link.specs.declared.phase.LinkPhase.TheVariants.{SettingUp, Up}
-use Rattle.ax_link.specs.Pair.{AcksFine, Both, Core, IsNew, acks_of, core, opens}
+use Rattle.ax_link.specs.Pair.{Both, Core, IsNew, acks_of, core, opens}
 use Rattle.ax_link.specs.State.{Frame, State}
+use Rattle.ax_link.proofs.Ways.{acks_low}
 use Rattle.link_life.specs.Ends.{End, Epoch, Flight, epochs, is_of_account, lasting, partner_of}
 use Rattle.link_life.specs.Laws.{ArePartners, EpochSafe, IsFrom, WithPartner}
 use Rattle.link_life.proofs.Cases.{IsFresh}
@@ -124,25 +126,12 @@ get_in [] i y e = absurd (cc e)
 get_in (x ∷ xs) zero y e = omega arith
 get_in (x ∷ xs) (suc i) y e = let l = get_in xs i y e in omega (arith, l)
 
-pub get_more : {A : Type 0} (xs ys : List A) (i : ℕ) (y : A) → slice_get xs i ≡ Some y → slice_get (xs ++ ys) i ≡ Some y
-get_more [] ys i y e = absurd (cc e)
-get_more (x ∷ xs) ys zero y e = e
-get_more (x ∷ xs) ys (suc i) y e = get_more xs ys i y e
-
 -- what stands elsewhere than behind these
 pub get_other : {A : Type 0} (xs : List A) (y : A) (i : ℕ) → (i ≡ length xs → ⊥) → slice_get xs i ≡ slice_get (xs ++ y ∷ []) i
 get_other [] y zero n = absurd (n refl)
 get_other [] y (suc i) n = refl
 get_other (x ∷ xs) y zero n = refl
 get_other (x ∷ xs) y (suc i) n = get_other xs y i (λ e. n (ap suc e))
-
-nil_of : {A : Type 0} (xs : List A) → length xs ≡ 0 → xs ≡ []
-nil_of [] e = refl
-nil_of (x ∷ xs) e = absurd (omega (arith, e))
-
-acks_low : (size got : ℕ) (rs : List ℕ) (low : ℕ) → AcksFine size got rs low → low ≤ got
-acks_low size got [] low p = p
-acks_low size got (r ∷ rs) low p = let l = acks_low size got rs p.0 p.3 in let m = p.2 in omega (arith, l, m)
 
 -- ---- in a conversation all epochs are safe
 
@@ -154,7 +143,7 @@ pub epoch_safe : (n k : ℕ) (c d : Core) (h g : List ℕ) (fs gs : List Frame) 
     ((h ≡ [] → ⊥) → (j : ℕ) × (k ≡ suc j) × (slice_get others j ≡ Some (epoch_of d g))) → EpochSafe n (epoch_of c h) others
 epoch_safe n k c d [] g fs gs others b o u alone at =
     let f = alone refl in let r = f.reach in
-    record { heard = tt; partner = record { got = nil_of c.received (omega (arith, r)); acked = f.acked } }
+    record { heard = tt; partner = record { got = nil_from_length c.received (omega (arith, r)); acked = f.acked } }
 epoch_safe n k c d (m ∷ ms) g fs gs others b o u alone at =
     let p = at (λ e. absurd (cc e)) in
     let partners : ArePartners n (epoch_of c (m ∷ ms)) (epoch_of d g) =

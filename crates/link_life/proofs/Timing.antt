@@ -1,8 +1,8 @@
 -- Frames under way are in time.
-use Rattle.std.proofs.Common.{◌≡◌, ◌≤◌, ◌+◌, ◌-◌, min, ℕ, Bool, true, false, not, ◌&&◌, ◌||◌, if◌then◌else◌, List, [], ◌∷◌, ◌++◌, length, Option, Some, None, slice_get, nat_lt, refl, sym, ◌∙◌, subst, arith}
+use Rattle.std.proofs.Common.{◌≡◌, ◌≤◌, ◌+◌, ◌-◌, min, ℕ, Bool, true, false, not, ◌&&◌, ◌||◌, if◌then◌else◌, List, [], ◌∷◌, length, Option, Some, None, slice_get, nat_lt, refl, sym, ◌∙◌, subst, arith}
 use Rattle.std.proofs.lemmas.Bool.Decides.{nat_tests}
-use Rattle.std.specs.List.{AllByRecursion}
 use Rattle.radio_base.specs.declared.payload.Payload.{Payload}
+use Rattle.radio_base.proofs.Each.{each_append}
 use Rattle.ax_link.specs.State.{Effect, Frame, Rules, is_up}
 use Rattle.ax_link.specs.Table as table
 use Rattle.ax_link.specs.Table.{Input, step}
@@ -32,10 +32,6 @@ near_coming rules now g p =
 hear_coming : (f : Flight) (e : End) → (hear f e).coming ≡ e.coming
 hear_coming f e = if_coming (is_up e.link.phase && is_of_account f.frame.kind) (record e { heard = heard_more f.epoch e.heard }) e refl
 
-pub all_both : {X : Type 0} (P : X → Type 0) (xs ys : List X) → AllByRecursion P xs → AllByRecursion P ys → AllByRecursion P (xs ++ ys)
-all_both P [] ys a b = b
-all_both P (x ∷ xs) ys a b = (a.0, all_both P xs ys a.1 b)
-
 pub set_out : (now delay epoch : ℕ) (fs : List Frame) → AllInTime now delay (flights now epoch fs)
 set_out now delay epoch [] = tt
 set_out now delay epoch (f ∷ fs) = (record { sent = omega arith; kept = omega arith }, set_out now delay epoch fs)
@@ -55,7 +51,7 @@ moved_in_time delay t i taken p s =
     let g : Effect = step p.near.link i t.now in
     record {
       near = subst (λ (fs : List Flight). AllInTime t.now delay fs) (sym (near_coming t.rules t.now g p)) s.near;
-      far = all_both (IsInTime t.now delay) p.far.coming (flights t.now (number (after_step g p.near)) g.outs) s.far (set_out t.now delay (number (after_step g p.near)) g.outs);
+      far = each_append (IsInTime t.now delay) p.far.coming (flights t.now (number (after_step g p.near)) g.outs) s.far (set_out t.now delay (number (after_step g p.near)) g.outs);
     }
 
 unless_in_time : (now delay : ℕ) (o : Option LifeRefusal) (done : Outcome Ends) → OutcomeInTime now delay done → OutcomeInTime now delay (unless o done)

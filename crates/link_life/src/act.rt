@@ -1,4 +1,4 @@
-//! What is done in a life.
+//! What is done in a life. Used by most files here.
 use crate::sent_text::SentText;
 
 /// One of the two stations: N0AAA or N0BBB.

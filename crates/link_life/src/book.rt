@@ -1,4 +1,4 @@
-//! What is kept of an end beside its link.
+//! What is kept of an end beside its link. Called by `end`, `settle` and `turn`.
 ghost use Rattle.std.specs.Prelude.{◌≡◌, ◌++◌, [], None, Some, OnOk};
 ghost use Rattle.link_life.specs.Ends as ends;
 ghost use Rattle.link_life.specs.Standing as standing;

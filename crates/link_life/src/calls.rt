@@ -1,4 +1,4 @@
-//! The calls of both stations.
+//! The calls of both stations. Called by `life`, `told` and `turn`.
 ghost use Rattle.std.specs.Prelude.{◌≡◌};
 ghost use Rattle.link_life.specs.declared.act.Side.TheVariants.{A, B};
 ghost use Rattle.link_life.specs.Reports as reports;

@@ -1,4 +1,4 @@
-//! One end of a life, and its settings.
+//! One end of a life, and its settings. Called by `epoch_lines`, `life`, `settle` and `turn`.
 ghost use Rattle.std.specs.Prelude.{◌≡◌, [], None, IfOk};
 ghost use Rattle.ax_frame.specs.Controls.{IsLinkModulus};
 ghost use Rattle.ax_link.specs.Opening.{rules_new};

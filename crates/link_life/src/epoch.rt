@@ -1,4 +1,4 @@
-//! What an end went through between two resets.
+//! What an end went through between two resets. Called by `book` and `epoch_lines`.
 ghost use Rattle.std.specs.Prelude.{◌≡◌};
 ghost use Rattle.link_life.specs.Standing as standing;
 

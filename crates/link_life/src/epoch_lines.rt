@@ -1,4 +1,4 @@
-//! The last lines of a report: the epochs of both ends.
+//! The last lines of a report: the epochs of both ends. Called by `life`.
 ghost use Rattle.std.specs.Prelude.{◌≡◌, ◌≤◌, ◌++◌, ◌+◌, OnOk, length};
 ghost use Rattle.std.specs.Fmt.{decimal};
 ghost use Rattle.link_life.specs.Ends as ends;

@@ -1,4 +1,4 @@
-//! A frame under way.
+//! A frame under way. Used by `book`, `life`, `settle` and `turn`.
 use ax_link::LinkOut;
 
 /// A frame under way.

@@ -1,4 +1,4 @@
-//! What holds of each life at each moment, whatever is done.
+//! What holds of each life at each moment, whatever is done. No code calls them.
 ghost use Rattle.link_life.specs.Laws.{FramesInTime, HalfIsTooLong, LivesAreSafe, ReportsEnd, SetUpAgain, SetUpsCross};
 
 /// The channel keeps its promise: each frame under way was sent no longer ago than the channel delays one. The refusal `delay` keeps it.

@@ -1,4 +1,4 @@
-//! The life of a link, act by act.
+//! The life of a link, act by act. Called by `tool_cmd`.
 ghost use Rattle.std.specs.Prelude.{◌≡◌, ◌++◌, OnOk, OnErr, IfOk, ◌||◌, None};
 ghost use Rattle.ax_frame.specs.Controls.{IsLinkModulus};
 ghost use Rattle.link_life.specs.Lives as lives;

@@ -1,4 +1,4 @@
-//! What is wrong with a script, and why a line of it isn't done.
+//! What is wrong with a script, and why a line of it isn't done. Called by most files here, and by `tool_cmd`.
 use std::alloc::{AllocError, AllocFailed};
 use std::fmt;
 use thiserror::Error;

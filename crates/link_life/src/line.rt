@@ -1,4 +1,4 @@
-//! What a line of a script says: its kind is named by its first word.
+//! What a line of a script says: its kind is named by its first word. Called by `script`.
 ghost use Rattle.std.specs.Prelude.{◌≡◌, ◌∷◌, MatchOption, None, Some};
 ghost use Rattle.link_life.specs.Lines as lines;
 ghost use Rattle.text_lines.specs.Lines.{words_of};

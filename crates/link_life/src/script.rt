@@ -1,4 +1,4 @@
-//! A script, read whole.
+//! A script, read whole. Called by `life`, and by `tool_cmd`.
 ghost use Rattle.std.specs.Prelude.{◌≡◌, ◌≤◌, ◌++◌, ◌∷◌, ◌+◌, [], length, Ok, Err, OnOk, OnErr, IfErr, MatchResult};
 ghost use Rattle.std.specs.Str.Lines.{lines};
 ghost use Rattle.link_life.specs.Lines as scripts;

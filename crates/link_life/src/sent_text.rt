@@ -36,17 +36,6 @@ impl<'a> SentText<'a> {
     pub fn payload(&self) -> Payload
         ensures { result ≡ self.now }
     {
-        payload_of(self.text)
+        Payload::of(TEXT_PID, self.text)
     }
-}
-
-fn payload_of(text: &[u8]) -> Payload
-    requires { length text.now ≤ 256 }
-    ensures pid { result.pid ≡ 240 }
-    ensures info { result.info.items ≡ text.now }
-{
-    let mut payload = Payload::default();
-    payload.pid = TEXT_PID;
-    let _ = payload.info.try_extend_from_slice(text);
-    payload
 }

@@ -1,4 +1,4 @@
-//! What comes of a step at one end: its notices are heeded, its frames set out, and a link that went Down is replaced.
+//! What comes of a step at one end: its notices are heeded, its frames set out, and a link that went Down is replaced. Called by `turn`.
 ghost use Rattle.std.specs.Prelude.{◌≡◌, ◌++◌, [], map, None, Some, OnOk};
 ghost use Rattle.std.specs.Option.{option_to_list};
 ghost use Rattle.std.specs.List.{flat_map};

@@ -1,4 +1,4 @@
-//! What an act tells: the lines of a report.
+//! What an act tells: the lines of a report. Called by `epoch_lines`, `life`, `settle` and `turn`.
 ghost use Rattle.std.specs.Prelude.{◌≡◌, ◌≤◌, ◌++◌, OnOk, length};
 ghost use Rattle.ax_link.specs.Bounds.{CanBeSent};
 ghost use Rattle.ax_link.specs.Standing.{frame_of};

@@ -1,4 +1,4 @@
-//! What is done at one end.
+//! What is done at one end. Called by `life`.
 ghost use Rattle.std.specs.Prelude.{◌≡◌, Some, OnOk, IfOk};
 ghost use Rattle.ax_frame.specs.Controls.{IsLinkModulus};
 ghost use Rattle.ax_link.specs.Standing.{IsDrained, Stands, StandsFor, frame_of};

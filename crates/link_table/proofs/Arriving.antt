@@ -1,7 +1,6 @@
 -- Frames that come, by what stands.
 use Rattle.std.proofs.Common.{◌≡◌, ℕ, ◌<◌, ◌≤◌, Bool, true, false, nat_le, ◌==◌, List, [], ◌∷◌, ◌++◌, length, Option, Some, None, is_some, refl, ap, sym, ◌∙◌, subst, arith, if◌then◌else◌}
 use Rattle.std.proofs.lemmas.Bool.Decides.{nat_tests}
-use mathlib.Core.Bool.{beq}
 use Rattle.std.specs.Map.{lookup}
 use Rattle.arrayvec.specs.ArrayVec.{ArrayVec}
 use Rattle.ax_address.specs.Callsign.{Callsign, same_call}
@@ -17,11 +16,13 @@ use Rattle.ax_link.specs.Table.{Arrive, step}
 use Rattle.ax_link.specs.declared.notice.LinkNotice.TheVariants.{Closed}
 use Rattle.link_table.specs.declared.entry.LinkEntry.{LinkEntry}
 use Rattle.link_table.specs.declared.held_links.HeldLinks.{HeldLinks}
-use Rattle.link_table.specs.declared.link_of.LinkOf.{LinkOf}
-use Rattle.link_table.specs.declared.link_of.LinkOf.TheVariants.{Eight, Wide}
 use Rattle.link_table.specs.Calls.{answer, answer_down, back, end, keep, link_frame, made, most_links, no_set_up, refusal_of, refused_by, set_up, set_up_new, sets_up, source, to_link}
 use Rattle.link_table.specs.Frames.{all_sent, fitting, head_to, sent}
-use Rattle.link_table.specs.Standing.{CoreGoes, CoreStands, is_wide, size_of, wide_at, wide_by, width}
+use Rattle.link_table.specs.Standing.{CoreGoes, CoreStands, modulus_at, modulus_by, modulus_of}
+use Rattle.radio_base.specs.Modulus.{modulus_size}
+use Rattle.radio_base.specs.contracts.modulus.LinkModulusPartialEq.TheImpl as same
+use Rattle.radio_base.specs.declared.modulus.LinkModulus.{LinkModulus}
+use Rattle.radio_base.specs.declared.modulus.LinkModulus.TheVariants.{Modulo8, Modulo128}
 use Rattle.link_table.specs.Table.{Table, link_with}
 use Rattle.link_table.specs.Works.{arrive_at_link}
 use Rattle.link_table.proofs.Links.{Found, found, none_found}
@@ -70,54 +71,51 @@ new_made c c2 c3 size pf f now l first next t s =
     subst (CoreStands c3) (sym (ap (λ b. if b then answer f (control.Dm pf) [] t else to_link f now (made (source f) size (back f) t)) room))
     (next (made (source f) size (back f) t) (first t s))
 
-wide_none : (x : Option LinkEntry) → wide_by x ≡ None → x ≡ None
-wide_none None e = refl
-wide_none (Some y) e = absurd (cc e)
+modulus_none : (x : Option LinkEntry) → modulus_by x ≡ None → x ≡ None
+modulus_none None e = refl
+modulus_none (Some y) e = absurd (cc e)
 
-wide_some : (x : Option LinkEntry) (b : Bool) → wide_by x ≡ Some b → (e : LinkEntry) × (x ≡ Some e) × (is_wide e.link ≡ b)
-wide_some None b e = absurd (cc e)
-wide_some (Some y) b e = (y, refl, cc e)
+modulus_some : (x : Option LinkEntry) (m : LinkModulus) → modulus_by x ≡ Some m → (e : LinkEntry) × (x ≡ Some e) × (modulus_of e.link ≡ m)
+modulus_some None m e = absurd (cc e)
+modulus_some (Some y) m e = (y, refl, cc e)
 
-size_by : (l : LinkOf) → size_of l ≡ width (is_wide l)
-size_by (Eight h) = refl
-size_by (Wide h) = refl
+pub modulus_absent : (c : HeldLinks) (peer : Callsign) → None ≡ modulus_at peer c.links.entries → lookup (same_call peer) c.links.entries ≡ None
+modulus_absent c peer e = modulus_none _ (sym e)
 
-pub wide_absent : (c : HeldLinks) (peer : Callsign) → None ≡ wide_at peer c.links.entries → lookup (same_call peer) c.links.entries ≡ None
-wide_absent c peer e = wide_none _ (sym e)
-
-pub set_up_absent : (c c2 : HeldLinks) (size : ℕ) (pf : Bool) (f : AirFrame) (now : ℕ) → None ≡ wide_at (source f) c.links.entries →
+pub set_up_absent : (c c2 : HeldLinks) (size : ℕ) (pf : Bool) (f : AirFrame) (now : ℕ) → None ≡ modulus_at (source f) c.links.entries →
     CoreGoes (set_up_new size pf f now) c c2 → CoreGoes (set_up size pf f now) c c2
 set_up_absent c c2 size pf f now e goes t s =
     subst (CoreStands c2)
     (sym (ap (λ x. elim x as (λ y. Table) [ None ↦ set_up_new size pf f now t | Some l ↦ if l.link.rules.size == size then to_link f now t else set_up_new size pf f now (end (source f) (Closed ∷ []) t) ])
-    (none_found c.own (source f) c.links.entries t.links s.links (wide_absent c (source f) e))))
+    (none_found c.own (source f) c.links.entries t.links s.links (modulus_absent c (source f) e))))
     (goes t s)
 
-sizes : (a b : Bool) → (width a == width b) ≡ beq a b
-sizes true true = refl
-sizes false false = refl
-sizes true false = refl
-sizes false true = refl
+-- two are the same where both have as many numbers
+pub same_size : (a b : LinkModulus) → (modulus_size a == modulus_size b) ≡ same.eq-value.it a b
+same_size Modulo8 Modulo8 = refl
+same_size Modulo8 Modulo128 = refl
+same_size Modulo128 Modulo8 = refl
+same_size Modulo128 Modulo128 = refl
 
-standing_is : (c : HeldLinks) (wide of_link : Bool) (pf : Bool) (f : AirFrame) (now : ℕ) (same : Bool) → Some of_link ≡ wide_at (source f) c.links.entries → (width of_link == width wide) ≡ same →
-    (t : Table) → CoreStands c t → set_up (width wide) pf f now t ≡ (if same then to_link f now t else set_up_new (width wide) pf f now (end (source f) (Closed ∷ []) t))
-standing_is c wide of_link pf f now same e test t s =
-    let x = wide_some _ of_link (sym e) in
+standing_is : (c : HeldLinks) (modulus of_link : LinkModulus) (pf : Bool) (f : AirFrame) (now : ℕ) (same : Bool) → Some of_link ≡ modulus_at (source f) c.links.entries → (modulus_size of_link == modulus_size modulus) ≡ same →
+    (t : Table) → CoreStands c t → set_up (modulus_size modulus) pf f now t ≡ (if same then to_link f now t else set_up_new (modulus_size modulus) pf f now (end (source f) (Closed ∷ []) t))
+standing_is c modulus of_link pf f now same e test t s =
+    let x = modulus_some _ of_link (sym e) in
     let y : Found c.own (source f) x.0 t.links = found c.own (source f) c.links.entries t.links x.0 s.links x.1 in
-    let size : y.link.link.rules.size ≡ width of_link = ap (λ (z : State). z.rules.size) y.stands.link.keeps.is ∙ size_by x.0.link ∙ ap width x.2 in
-    let by : Bool → Table = λ b. if b then to_link f now t else set_up_new (width wide) pf f now (end (source f) (Closed ∷ []) t) in
-    ap (λ z. elim z as (λ q. Table) [ None ↦ set_up_new (width wide) pf f now t | Some l ↦ by (l.link.rules.size == width wide) ]) y.with
-    ∙ ap (λ n. by (n == width wide)) size ∙ ap by test
+    let size : y.link.link.rules.size ≡ modulus_size of_link = ap (λ (z : State). z.rules.size) y.stands.link.keeps.is ∙ ap modulus_size x.2 in
+    let by : Bool → Table = λ b. if b then to_link f now t else set_up_new (modulus_size modulus) pf f now (end (source f) (Closed ∷ []) t) in
+    ap (λ z. elim z as (λ q. Table) [ None ↦ set_up_new (modulus_size modulus) pf f now t | Some l ↦ by (l.link.rules.size == modulus_size modulus) ]) y.with
+    ∙ ap (λ n. by (n == modulus_size modulus)) size ∙ ap by test
 
-pub set_up_same : (c c2 : HeldLinks) (wide of_link : Bool) (pf : Bool) (f : AirFrame) (now : ℕ) → Some of_link ≡ wide_at (source f) c.links.entries → beq of_link wide ≡ true →
-    CoreGoes (to_link f now) c c2 → CoreGoes (set_up (width wide) pf f now) c c2
-set_up_same c c2 wide of_link pf f now e q goes t s =
-    subst (CoreStands c2) (sym (standing_is c wide of_link pf f now true e (sizes of_link wide ∙ q) t s)) (goes t s)
+pub set_up_same : (c c2 : HeldLinks) (modulus of_link : LinkModulus) (pf : Bool) (f : AirFrame) (now : ℕ) → Some of_link ≡ modulus_at (source f) c.links.entries → (modulus_size of_link == modulus_size modulus) ≡ true →
+    CoreGoes (to_link f now) c c2 → CoreGoes (set_up (modulus_size modulus) pf f now) c c2
+set_up_same c c2 modulus of_link pf f now e q goes t s =
+    subst (CoreStands c2) (sym (standing_is c modulus of_link pf f now true e q t s)) (goes t s)
 
-pub set_up_other : (c c2 c3 : HeldLinks) (wide of_link : Bool) (pf : Bool) (f : AirFrame) (now : ℕ) → Some of_link ≡ wide_at (source f) c.links.entries → beq of_link wide ≡ false →
-    CoreGoes (end (source f) (Closed ∷ [])) c c2 → CoreGoes (set_up_new (width wide) pf f now) c2 c3 → CoreGoes (set_up (width wide) pf f now) c c3
-set_up_other c c2 c3 wide of_link pf f now e q first next t s =
-    subst (CoreStands c3) (sym (standing_is c wide of_link pf f now false e (sizes of_link wide ∙ q) t s))
+pub set_up_other : (c c2 c3 : HeldLinks) (modulus of_link : LinkModulus) (pf : Bool) (f : AirFrame) (now : ℕ) → Some of_link ≡ modulus_at (source f) c.links.entries → (modulus_size of_link == modulus_size modulus) ≡ false →
+    CoreGoes (end (source f) (Closed ∷ [])) c c2 → CoreGoes (set_up_new (modulus_size modulus) pf f now) c2 c3 → CoreGoes (set_up (modulus_size modulus) pf f now) c c3
+set_up_other c c2 c3 modulus of_link pf f now e q first next t s =
+    subst (CoreStands c3) (sym (standing_is c modulus of_link pf f now false e q t s))
     (next (end (source f) (Closed ∷ []) t) (first t s))
 
 -- ---- all other frames

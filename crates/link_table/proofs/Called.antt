@@ -5,6 +5,7 @@ use Rattle.radio_base.specs.declared.payload.Payload.{Payload}
 use Rattle.arrayvec.specs.ArrayVec.{ArrayVec}
 use Rattle.ax_address.specs.Callsign.{Callsign, same_call}
 use Rattle.ax_address.specs.declared.address.Address.{Address}
+use Rattle.ax_address.proofs.SameCalls.{same_call-true}
 use Rattle.ax_link.specs.declared.notice.LinkNotice.{LinkNotice}
 use Rattle.ax_link.specs.declared.notice.LinkNotice.TheVariants.{Failed}
 use Rattle.ax_link.specs.Opening.{opening, rules_new}
@@ -20,7 +21,7 @@ use Rattle.link_table.specs.Table.{Linked, Table, link_with, path_to, with_link,
 use Rattle.link_table.specs.Texts as texts
 use Rattle.link_table.specs.Works.{Work, first_to_take, hand_up, is_down, most_taken, settle, step_link, take_payload, tell}
 use Rattle.link_table.proofs.Endings.{none_opened, none_there}
-use Rattle.link_table.proofs.Finding.{found_peer, once_behind, once_with, once_without, same_call-true, with_found, without_found, without_here}
+use Rattle.link_table.proofs.Finding.{found_peer, once_behind, once_with, once_without, with_found, without_found, without_here}
 
 -- ---- work at one link
 

@@ -6,15 +6,17 @@ use Rattle.std.proofs.lemmas.Bool.{eqb-true}
 use Rattle.std.specs.List.{AllByRecursion}
 use Rattle.arrayvec.specs.ArrayVec.{ArrayVec}
 use Rattle.radio_base.specs.declared.payload.Payload.{Payload}
+use Rattle.radio_base.proofs.Each.{each_append}
 use Rattle.ax_address.specs.Callsign.{Callsign, same_call}
 use Rattle.ax_address.specs.declared.address.Address.{Address}
+use Rattle.ax_address.proofs.SameCalls.{same_call-true}
 use Rattle.ax_frame.specs.declared.control.Control.{Control}
 use Rattle.ax_frame.specs.declared.control.Control.TheVariants as control
 use Rattle.ax_frame.specs.FrameText.{is_command}
 use Rattle.ax_frame.specs.Frames.{Frame as AirFrame, frame}
 use Rattle.ax_link.specs.Kinds.{info_of, payload_of, pid_of}
 use Rattle.ax_link.specs.Opening.{opening, rules_new}
-use Rattle.ax_link.specs.Bounds.{Bounded, stock, Has, HasIf, HavePayloads}
+use Rattle.ax_link.specs.Bounds.{Bounded, stock, Has, HasIf}
 use Rattle.ax_link.specs.Laws.{BoundsStay, PayloadsStay, SettingsStay}
 use Rattle.ax_link.specs.Bounds as put
 use Rattle.ax_link.specs.State.{Frame, Rules}
@@ -29,15 +31,10 @@ use Rattle.link_table.specs.Calls as calls
 use Rattle.link_table.specs.Frames.{all_sent, fitting, head_to, is_numbered, most_octets, netrom, octets_of, plain_text, Sent, sent, sent_by, segmented}
 use Rattle.link_table.specs.Laws.{Brings, Carries, CarriesOn, FrameHolds, LinkHolds, ParcelCame, goes_to}
 use Rattle.link_table.specs.Table.{Linked, Pending, Table, path_to, link_with, with_link, without}
-use Rattle.link_table.proofs.Finding.{same_call-true}
 use Rattle.link_table.proofs.Lifting.{untexted}
 use Rattle.ax_segment.specs.Segments.{segments_of}
 use Rattle.link_table.specs.Texts as texts
 use Rattle.link_table.specs.Works.{Work, arrive_at_link, first_to_take, is_down, hand_up, most_taken, emit, note_caller, settle, step_link, take_payload, tell}
-
-all_snoc : {A : Type 0} (P : A → Type 0) (xs ys : List A) → AllByRecursion P xs → AllByRecursion P ys → AllByRecursion P (xs ++ ys)
-all_snoc P [] ys a b = b
-all_snoc P (x ∷ xs) ys a b = (a.0, all_snoc P xs ys a.1 b)
 
 all_drop : {A : Type 0} (P : A → Type 0) (xs : List A) → AllByRecursion P xs → AllByRecursion P (drop 1 xs)
 all_drop P [] a = tt
@@ -82,7 +79,7 @@ module _ (law : PayloadsStay) (bounds_stay : BoundsStay) (settings_stay : Settin
       AllByRecursion (FrameHolds offered came sizes) (all_sent size own peer path fs)
   link_frames size own peer path [] k a = tt
   link_frames size own peer path (f ∷ fs) k a =
-      all_snoc (FrameHolds offered came sizes) (fitting (sent_by size own peer path f)) (all_sent size own peer path fs)
+      each_append (FrameHolds offered came sizes) (fitting (sent_by size own peer path f)) (all_sent size own peer path fs)
       (fits_sent (sent_by size own peer path f) (record { payload = λ q e i. carried_by peer f.payload a.0 q e i; size = λ n. k })) (link_frames size own peer path fs k a.1)
 
   -- ---- one link
@@ -98,7 +95,7 @@ module _ (law : PayloadsStay) (bounds_stay : BoundsStay) (settings_stay : Settin
         },
         (
           x.1.0,
-          all_snoc (FrameHolds offered came sizes) w.pending.frames fs x.1.1
+          each_append (FrameHolds offered came sizes) w.pending.frames fs x.1.1
               (link_frames w.linked.link.rules.size own w.linked.peer w.linked.path (step w.linked.link i now).outs x.0.size r.1),
         ),
       )
@@ -115,7 +112,7 @@ module _ (law : PayloadsStay) (bounds_stay : BoundsStay) (settings_stay : Settin
       by true e c =
           let pid : p.pid ≡ netrom = eqb-true p.pid netrom e in
           let same : p ≡ calls.pack p.info = (λ j. record { pid = pid j; info = p.info }) in
-          (x.0, (all_snoc (ParcelCame offered came sizes) w.pending.waiting ((w.linked.peer, p.info) ∷ []) x.1.0 (subst (Has (came w.linked.peer)) same a, tt), x.1.1))
+          (x.0, (each_append (ParcelCame offered came sizes) w.pending.waiting ((w.linked.peer, p.info) ∷ []) x.1.0 (subst (Has (came w.linked.peer)) same a, tt), x.1.1))
       by false e true = (record { bounds = x.0.bounds; payloads = x.0.payloads; size = x.0.size }, x.1)
       by false e false = x
 
@@ -202,10 +199,10 @@ module _ (law : PayloadsStay) (bounds_stay : BoundsStay) (settings_stay : Settin
       let l : Linked = record { peer = peer; link = opening (rules_new size t.config); path = path; joiner = Nothing; called = false } in
       let h : LinkHolds offered came sizes l =
       record { bounds = opening_bounded size t.config z.0; payloads = record { given = tt; received = tt; inbox = tt; early = none_early (came peer) _ }; size = z.1 } in
-      record { modulus = x.modulus; size = x.size; links = all_snoc (LinkHolds offered came sizes) t.links (l ∷ []) x.links (h, tt); waiting = x.waiting; frames = x.frames }
+      record { modulus = x.modulus; size = x.size; links = each_append (LinkHolds offered came sizes) t.links (l ∷ []) x.links (h, tt); waiting = x.waiting; frames = x.frames }
 
   put_carries : (sents : List Sent) (t : Table) → AllByRecursion (FrameHolds offered came sizes) sents → Carries offered came sizes t → Carries offered came sizes (record t { pending = emit sents t.pending })
-  put_carries sents t a x = record { modulus = x.modulus; size = x.size; links = x.links; waiting = x.waiting; frames = all_snoc (FrameHolds offered came sizes) t.pending.frames sents x.frames a }
+  put_carries sents t a x = record { modulus = x.modulus; size = x.size; links = x.links; waiting = x.waiting; frames = each_append (FrameHolds offered came sizes) t.pending.frames sents x.frames a }
 
   -- ---- frames that come
 
@@ -278,7 +275,7 @@ module _ (law : PayloadsStay) (bounds_stay : BoundsStay) (settings_stay : Settin
             modulus = x.modulus;
             size = x.size;
             links = x.links;
-            waiting = all_snoc (ParcelCame offered came sizes) t.pending.waiting ((calls.source f, record { items = f.info }) ∷ []) x.waiting (b.payload _ is, tt);
+            waiting = each_append (ParcelCame offered came sizes) t.pending.waiting ((calls.source f, record { items = f.info }) ∷ []) x.waiting (b.payload _ is, tt);
             frames = x.frames;
           }
       by true false q r = x

@@ -19,6 +19,8 @@ use Rattle.l3_datagram.specs.declared.carrier.Offered.TheVariants.{Taken, Droppe
 use Rattle.arrayvec.specs.ArrayVec.{ArrayVec}
 use Rattle.ax_address.specs.declared.address.Address.{Address}
 use Rattle.std.specs.Prelude.{Result, Ok, Err, is_ok}
+use Rattle.std.proofs.lemmas.Bool.{or_right}
+use Rattle.ax_address.proofs.SameCalls.{call_refl}
 use Rattle.link_table.specs.declared.open_refusal.OpenRefusal.{OpenRefusal}
 use Rattle.link_table.specs.declared.open_refusal.OpenRefusal.TheVariants.{Full, Standing, TooLong}
 use Rattle.link_table.specs.Calls as calls
@@ -28,8 +30,8 @@ use Rattle.link_table.specs.Table.{Linked, Table, link_with, path_to, with_link,
 use Rattle.link_table.specs.Texts as texts
 use Rattle.link_table.specs.Works.{Work, arrive_at_link, is_down, step_link, tell}
 use Rattle.link_table.proofs.Phases.{any_end}
-use Rattle.link_table.proofs.Finding.{before, call_refl, few_with, few_without, found_on, found_peer, last_found, on_behind, on_with, on_without, once_behind, once_with, once_without, with_found, with_last, without_found, without_here, without_last}
-use Rattle.link_table.proofs.Reports.{Reports, arrived, named, or_first, or_second, sent_each, stepped, text_taken, told_behind, told_more, told_notes}
+use Rattle.link_table.proofs.Finding.{before, few_with, few_without, found_on, found_peer, last_found, on_behind, on_with, on_without, once_behind, once_with, once_without, with_found, with_last, without_found, without_here, without_last}
+use Rattle.link_table.proofs.Reports.{Reports, arrived, named, or_both, sent_each, stepped, text_taken, told_behind, told_more, told_notes}
 
 -- ---- calls
 
@@ -51,10 +53,10 @@ kept peer l v t e r o = by (is_down v.linked.link.phase) refl
       where
         here : (b : Bool) → same_call q l.peer ≡ b → (is_some (link_with q (without peer t.links)) || tells_end q v.pending.notices) ≡ true
         here true s =
-            or_second (is_some (link_with q (without peer t.links))) (tells_end q v.pending.notices)
+            or_right (is_some (link_with q (without peer t.links))) (tells_end q v.pending.notices)
             (subst (λ (ns : List (Callsign × LinkNotice)). tells_end q ns ≡ true) (sym r.told) (told_behind q t.pending.notices _ (told_notes q l.peer r.notes s (r.ended (found_on peer t.links l o.on e) off))))
         here false s =
-            or_first (has_link q t) (tells_end q t.pending.notices) (is_some (link_with q (without peer t.links))) (tells_end q v.pending.notices)
+            or_both (has_link q t) (tells_end q t.pending.notices) (is_some (link_with q (without peer t.links))) (tells_end q v.pending.notices)
             (λ g. ap (λ (x : Option Linked). is_some x) (without_found q peer t.links l e s) ∙ g) (notices q) f
 
     by : (b : Bool) → is_down v.linked.link.phase ≡ b → Leaves t (record t { links = if b then without peer t.links else with_link peer v.linked t.links; pending = v.pending })
@@ -65,7 +67,7 @@ kept peer l v t e r o = by (is_down v.linked.link.phase) refl
     by false on = record {
       order = record { on = on_with peer t.links v.linked o.on on; once = once_with peer t.links l v.linked e r.peer o.once; few = rw (few_with peer t.links v.linked) o.few };
       told = λ q f.
-          or_first (has_link q t) (tells_end q t.pending.notices) (is_some (link_with q (with_link peer v.linked t.links))) (tells_end q v.pending.notices)
+          or_both (has_link q t) (tells_end q t.pending.notices) (is_some (link_with q (with_link peer v.linked t.links))) (tells_end q v.pending.notices)
           (λ g. with_found q peer t.links l v.linked e r.peer ∙ g) (notices q) f;
     }
 
@@ -109,7 +111,7 @@ made peer size path part t none room r o =
         subst (λ (ls : List Linked). Leaves t (record m { links = ls; pending = v.pending })) (sym (without_last peer t.links new none (call_refl peer)))
         (record {
           order = record { on = o.on; once = o.once; few = o.few };
-          told = λ q f. or_first (has_link q t) (tells_end q t.pending.notices) (has_link q t) (tells_end q v.pending.notices) (λ g. g) (notices q) f;
+          told = λ q f. or_both (has_link q t) (tells_end q t.pending.notices) (has_link q t) (tells_end q v.pending.notices) (λ g. g) (notices q) f;
         })
     by false on =
         subst (λ (ls : List Linked). Leaves t (record m { links = ls; pending = v.pending })) (sym (with_last peer t.links new v.linked none (call_refl peer)))
@@ -120,7 +122,7 @@ made peer size path part t none room r o =
             few = omega (arith, fits, length-append t.links (v.linked ∷ []));
           };
           told = λ q f.
-              or_first (has_link q t) (tells_end q t.pending.notices) (is_some (link_with q (t.links ++ v.linked ∷ []))) (tells_end q v.pending.notices)
+              or_both (has_link q t) (tells_end q t.pending.notices) (is_some (link_with q (t.links ++ v.linked ∷ []))) (tells_end q v.pending.notices)
               (λ g. before q t.links v.linked g) (notices q) f;
         })
 
@@ -138,9 +140,9 @@ ended peer notes t some o = by (link_with peer t.links) refl
         more = t.pending.notices ++ map (named peer) notes
 
         here : (q : Callsign) → stands_or_told q t ≡ true → (b : Bool) → same_call q peer ≡ b → (is_some (link_with q (without peer t.links)) || tells_end q more) ≡ true
-        here q f true s = or_second (is_some (link_with q (without peer t.links))) (tells_end q more) (told_behind q t.pending.notices _ (told_notes q peer notes s some))
+        here q f true s = or_right (is_some (link_with q (without peer t.links))) (tells_end q more) (told_behind q t.pending.notices _ (told_notes q peer notes s some))
         here q f false s =
-            or_first (has_link q t) (tells_end q t.pending.notices) (is_some (link_with q (without peer t.links))) (tells_end q more)
+            or_both (has_link q t) (tells_end q t.pending.notices) (is_some (link_with q (without peer t.links))) (tells_end q more)
             (λ g. ap (λ (x : Option Linked). is_some x) (without_found q peer t.links l e (subst (λ (k : Callsign). same_call q k ≡ false) (found_peer peer t.links l e) s)) ∙ g)
             (λ g. told_more q t.pending.notices _ g) f
 

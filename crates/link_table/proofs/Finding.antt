@@ -1,30 +1,10 @@
 -- Which link of a table is found with a peer, and what stays in order of its links.
-use Rattle.std.proofs.Common.{◌≡◌, ◌≤◌, ℕ, suc, ◌&&◌, Bool, true, false, nat_eq, List, [], ◌∷◌, ◌++◌, length, Option, Some, None, refl, ap, sym, ◌∙◌, subst, if◌then◌else◌, arith, is_some}
-use Rattle.std.proofs.lemmas.Bool.{eq-eqb, eqb-true}
-use Rattle.std.specs.Cmp.Lexicographic.{pointwise, same_text}
+use Rattle.std.proofs.Common.{◌≡◌, ◌≤◌, suc, Bool, true, false, List, [], ◌∷◌, ◌++◌, length, Option, Some, None, refl, ap, sym, ◌∙◌, subst, if◌then◌else◌, arith, is_some}
 use Rattle.std.specs.List.{AllByRecursion}
 use Rattle.ax_address.specs.Callsign.{Callsign, same_call}
+use Rattle.ax_address.proofs.SameCalls.{same_call-true, apart_sym}
 use Rattle.link_table.specs.Ending.{IsOn, OneEach}
 use Rattle.link_table.specs.Table.{Linked, link_with, with_link, without}
-
-both_true : (a b : Bool) → (a && b) ≡ true → (a ≡ true) × (b ≡ true)
-both_true true true h = (refl, refl)
-both_true true false h = absurd (cc h)
-both_true false b h = absurd (cc h)
-
-pub same_call-true : (a b : Callsign) → same_call a b ≡ true → a ≡ b
-same_call-true a b h =
-    let both = both_true (pointwise nat_eq a.letters b.letters) (nat_eq a.ssid b.ssid) h in
-    let letters : a.letters ≡ b.letters = same_text a.letters b.letters (sym both.0) in
-    let ssid : a.ssid ≡ b.ssid = eqb-true a.ssid b.ssid both.1 in
-    λ i. record { letters = letters i; ssid = ssid i }
-
-letters_refl : (xs : List ℕ) → pointwise nat_eq xs xs ≡ true
-letters_refl [] = refl
-letters_refl (x ∷ xs) = let e : nat_eq x x ≡ true = eq-eqb x x refl in rw e (letters_refl xs)
-
-pub call_refl : (a : Callsign) → same_call a a ≡ true
-call_refl a = let e : nat_eq a.ssid a.ssid ≡ true = eq-eqb a.ssid a.ssid refl in rw (letters_refl a.letters, e) refl
 
 -- ---- the links
 
@@ -153,13 +133,6 @@ once_without peer (m ∷ ls) o = by (same_call peer m.peer) (once_without peer l
     by true rest = o.1
     by false rest = (without_none m.peer peer ls o.0, rest)
 
-same_apart : (a b : Callsign) → same_call a b ≡ false → same_call b a ≡ false
-same_apart a b e = by (same_call b a) refl
-  where
-    by : (c : Bool) → same_call b a ≡ c → same_call b a ≡ false
-    by true f = let same : b ≡ a = same_call-true b a f in absurd (cc (sym e ∙ subst (λ (k : Callsign). same_call a k ≡ true) (sym same) (call_refl a)))
-    by false f = f
-
 none_behind : (q : Callsign) (ls : List Linked) (x : Linked) → link_with q ls ≡ None → same_call q x.peer ≡ false → link_with q (ls ++ x ∷ []) ≡ None
 none_behind q [] x none other = ap (λ b. if b then Some x else None) other
 none_behind q (m ∷ ls) x none other = by (same_call q m.peer) none (λ f. none_behind q ls x f other)
@@ -174,7 +147,7 @@ once_behind (m ∷ ls) x none o = by (same_call x.peer m.peer) refl none (λ f. 
   where
     by : (b : Bool) → same_call x.peer m.peer ≡ b → (if b then Some m else link_with x.peer ls) ≡ None → (link_with x.peer ls ≡ None → OneEach (ls ++ x ∷ [])) → OneEach ((m ∷ ls) ++ x ∷ [])
     by true h f rest = absurd (cc f)
-    by false h f rest = (none_behind m.peer ls x o.0 (same_apart x.peer m.peer h), rest f)
+    by false h f rest = (none_behind m.peer ls x o.0 (apart_sym x.peer m.peer h), rest f)
 
 pub on_behind : (ls : List Linked) (x : Linked) → AllByRecursion IsOn ls → IsOn x → AllByRecursion IsOn (ls ++ x ∷ [])
 on_behind [] x a b = (b, tt)

@@ -56,11 +56,6 @@ none_left_out link e = by link.outs e
     by [] e = refl
     by (x ∷ xs) e = absurd (cc e)
 
--- all but the frames stays
-pub outs_alone : (old mid new : LinkView) → mid ≡ record old { outs = mid.outs } → new ≡ record mid { outs = drop 1 mid.outs } → new ≡ record old { outs = new.outs }
-outs_alone old mid new first next =
-    next ∙ ap (λ (h : LinkView). record h { outs = drop 1 mid.outs }) first ∙ ap (λ xs. record old { outs = xs }) (sym (ap (λ (h : LinkView). h.outs) next))
-
 -- a notice leaves what is joined within its bounds
 after_within : (notes : List LinkNotice) (j : Joined) → IsWithin j → IsWithin (joiner_after notes j)
 after_within [] j x = x

@@ -26,7 +26,8 @@ use Rattle.ax_segment.specs.Joining.{IsWithin}
 use Rattle.l3_datagram.specs.Datagrams.{Datagram}
 use Rattle.l3_datagram.specs.declared.carrier.Offered.{Offered}
 use Rattle.l3_datagram.specs.declared.carrier.Offered.TheVariants.{Taken, Dropped}
-use Rattle.link_table.specs.Standing.{width, GoesQuietly, Offers, SameEntry, CoreGoes, AllDrained, CoreStands, EntryGoes, EntryStands, LinkStands, LinksStand, Rests, drop_if_down, held_of, size_of}
+use Rattle.radio_base.specs.Modulus.{modulus_size}
+use Rattle.link_table.specs.Standing.{kept_size, GoesQuietly, Offers, SameEntry, CoreGoes, AllDrained, CoreStands, EntryGoes, EntryStands, LinkStands, LinksStand, Rests, drop_if_down, held_of, size_of}
 use Rattle.link_table.specs.Works.{arrive_at_link, is_down, joiner_after, lost_by, emit, step_link, tell}
 use Rattle.link_table.proofs.Links.{Found, SameNode, at_link_stands, down_set, drained_removed, drained_set, few_removed, few_set, found, none_found, removed, set}
 
@@ -161,7 +162,7 @@ offer_at c c2 peer e e2 d now Dropped there same offers waiting lost notices n e
       record {
         own = s.own ∙ sym n.own;
         by_links = s.by_links ∙ sym n.by_links;
-        size = s.size ∙ ap width (sym n.wide);
+        size = s.size ∙ ap kept_size (sym n.modulus);
         config = s.config ∙ sym n.config;
         links = rw (n.own, entries) links;
         paths = s.paths ∙ sym n.paths;
@@ -185,7 +186,7 @@ unchanged c c2 n entries pending t s =
     record {
       own = s.own ∙ sym n.own;
       by_links = s.by_links ∙ sym n.by_links;
-      size = s.size ∙ ap width (sym n.wide);
+      size = s.size ∙ ap kept_size (sym n.modulus);
       config = s.config ∙ sym n.config;
       links = rw (n.own, entries) s.links;
       paths = s.paths ∙ sym n.paths;
@@ -200,10 +201,11 @@ same_length own (e ∷ es) (l ∷ ls) s = ap suc (same_length own es ls s.1)
 
 -- a new link, set up over these repeaters
 pub opens : (c c2 c3 : HeldLinks) (to : Callsign) (path : ArrayVec Address) (now : ℕ) →
-    CoreGoes (made to (width c.wide) path) c c2 → CoreGoes (λ t. at_link to (step_link t.own Set_up now) t) c2 c3 → CoreGoes (set_up_over to path now) c c3
+    CoreGoes (made to (modulus_size c.modulus) path) c c2 → CoreGoes (λ t. at_link to (step_link t.own Set_up now) t) c2 c3 → CoreGoes (set_up_over to path now) c c3
+unfolding kept_size
 opens c c2 c3 to path now first next t s =
-    let size : width c.wide ≡ t.size = sym s.size in
-    subst (λ n. CoreStands c3 (at_link to (step_link t.own Set_up now) (made to n path t))) size (next (made to (width c.wide) path t) (first t s))
+    let size : modulus_size c.modulus ≡ t.size = sym s.size in
+    subst (λ n. CoreStands c3 (at_link to (step_link t.own Set_up now) (made to n path t))) size (next (made to (modulus_size c.modulus) path t) (first t s))
 
 -- or over those that are set for the peer
 pub opens_set : (c c2 : HeldLinks) (to : Callsign) (path : ArrayVec Address) (now : ℕ) → path ≡ path_to to c.paths.entries → CoreGoes (set_up_over to path now) c c2 → CoreGoes (set_up_link to now) c c2
@@ -301,7 +303,7 @@ ends c c2 peer ns b e f n entries waiting lost notices frames t s =
     (record {
       own = s.own ∙ sym n.own;
       by_links = s.by_links ∙ sym n.by_links;
-      size = s.size ∙ ap width (sym n.wide);
+      size = s.size ∙ ap kept_size (sym n.modulus);
       config = s.config ∙ sym n.config;
       links = rw (n.own, entries) (removed c.own peer c.links.entries t.links s.links);
       paths = s.paths ∙ sym n.paths;
@@ -342,7 +344,7 @@ puts_out c c2 sents n entries waiting lost notices frames t s =
     record {
       own = s.own ∙ sym n.own;
       by_links = s.by_links ∙ sym n.by_links;
-      size = s.size ∙ ap width (sym n.wide);
+      size = s.size ∙ ap kept_size (sym n.modulus);
       config = s.config ∙ sym n.config;
       links = rw (n.own, entries) s.links;
       paths = s.paths ∙ sym n.paths;

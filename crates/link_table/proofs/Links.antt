@@ -13,7 +13,7 @@ use Rattle.link_table.specs.declared.route.LinkRoute.{LinkRoute}
 use Rattle.ax_link.specs.State.{State}
 use Rattle.ax_link.specs.Table.{Tick}
 use Rattle.ax_link.specs.Standing.{IsDrained, StandsFor}
-use Rattle.link_table.specs.Standing.{width, CoreGoes, AllDrained, CoreStands, EntryGoes, EntryStands, LinkStands, LinksStand, Rests, down_at, down_by, drop_if_down, held_of, size_of}
+use Rattle.link_table.specs.Standing.{kept_size, CoreGoes, AllDrained, CoreStands, EntryGoes, EntryStands, LinkStands, LinksStand, Rests, down_at, down_by, drop_if_down, held_of, size_of}
 use Rattle.link_table.specs.Works.{Work, is_down, step_link}
 
 module _ (own peer : Callsign) where
@@ -143,7 +143,7 @@ module _ (peer : Callsign) where
 pub record SameNode (c c2 : HeldLinks) : Type 0 where
   pub own : c2.own ≡ c.own
   pub by_links : c2.by_links ≡ c.by_links
-  pub wide : c2.wide ≡ c.wide
+  pub modulus : c2.modulus ≡ c.modulus
   pub config : c2.config ≡ c.config
   pub paths : c2.paths.entries ≡ c.paths.entries
 
@@ -157,7 +157,7 @@ at_no_link c c2 peer part none n entries pending t s =
     (record {
       own = s.own ∙ sym n.own;
       by_links = s.by_links ∙ sym n.by_links;
-      size = s.size ∙ ap width (sym n.wide);
+      size = s.size ∙ ap kept_size (sym n.modulus);
       config = s.config ∙ sym n.config;
       links = rw (n.own, entries) s.links;
       paths = s.paths ∙ sym n.paths;
@@ -196,7 +196,7 @@ at_link_stands c c2 peer e e2 kept2 part there goes same_pending n entries t s =
     (record {
       own = s.own ∙ sym n.own;
       by_links = s.by_links ∙ sym n.by_links;
-      size = s.size ∙ ap width (sym n.wide);
+      size = s.size ∙ ap kept_size (sym n.modulus);
       config = s.config ∙ sym n.config;
       links = rw (n.own, entries, down_set peer c.links.entries e e2 there, phase) (by w2 links (is_down (held_of e2.link).phase));
       paths = s.paths ∙ sym n.paths;
@@ -275,18 +275,18 @@ rests_more c c2 k e r l d q =
 pub made_stands : (c c2 : HeldLinks) (size : ℕ) (e : LinkEntry) (route : LinkRoute) → SameNode c c2 → c2.pending ≡ c.pending →
     c2.links.entries ≡ c.links.entries ++ (route.peer, e) ∷ [] → route.own ≡ c.own → e.route ≡ route → e.joiner ≡ Nothing → e.called ≡ false → size_of e.link ≡ size →
     StandsFor size (held_of e.link) (opening (rules_new size c.config)) → CoreGoes (made route.peer size route.path) c c2
-made_stands c c2 size e route n pending entries own same joiner called width_is link t s =
+made_stands c c2 size e route n pending entries own same joiner called size_is link t s =
     record {
       own = s.own ∙ sym n.own;
       by_links = s.by_links ∙ sym n.by_links;
-      size = s.size ∙ ap width (sym n.wide);
+      size = s.size ∙ ap kept_size (sym n.modulus);
       config = s.config ∙ sym n.config;
       links = rw (n.own, entries) (appended c.own c.links.entries t.links route.peer e _ s.links (record {
         own = ap (λ (r : LinkRoute). r.own) same ∙ own;
         peer = ap (λ (r : LinkRoute). r.peer) same;
         is = refl;
         path = sym (ap (λ (r : LinkRoute). r.path) same);
-        link = rw (s.config, width_is) link;
+        link = rw (s.config, size_is) link;
         joiner = sym joiner;
         called = sym called;
         within = subst IsWithin (sym joiner) tt;

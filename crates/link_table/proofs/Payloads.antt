@@ -3,6 +3,7 @@ use Rattle.std.proofs.Common.{◌≡◌, ◌≤◌, ◌<◌, ◌+◌, ◌∙◌,
 use Rattle.std.specs.Prelude.{Bool, true, false, if◌then◌else◌, ◌&&◌, nat_le, is_some, Option, Some, None}
 use Rattle.radio_base.specs.declared.payload.Payload.{Payload}
 use Rattle.ax_address.specs.Callsign.{Callsign, same_call}
+use Rattle.ax_address.proofs.SameCalls.{call_refl}
 use Rattle.ax_link.specs.declared.phase.LinkPhase.{LinkPhase}
 use Rattle.ax_link.specs.declared.phase.LinkPhase.TheVariants.{Down, SettingUp, Up, Releasing}
 use Rattle.ax_link.specs.Opening.{opening, rules_new}
@@ -20,7 +21,6 @@ use Rattle.link_table.specs.Table.{Linked, Table, link_with, path_to, with_link,
 use Rattle.link_table.specs.Texts as texts
 use Rattle.link_table.specs.Works.{Work, first_to_take, is_down, most_taken, settle, step_link, take_payload}
 use Rattle.link_table.proofs.Lifting.{untexted}
-use Rattle.link_table.proofs.Finding.{call_refl}
 use Rattle.link_table.proofs.Settling.{found_last, handed_link, take_weight}
 
 -- ---- payloads are taken from a link
@@ -62,7 +62,7 @@ removed peer (k ∷ ls) l e = by (same_call peer k.peer) e (removed peer ls l)
     by false f rest = omega (arith, rest f)
 
 -- a link that stays has what it has come to; one that leaves has nothing any more
-kept_most : (peer : Callsign) (w : Work) (t : Table) (l : Linked) → link_with peer t.links ≡ Some l → payloads (calls.keep peer w t) + link_payloads l.link ≤ payloads t + link_payloads w.linked.link
+pub kept_most : (peer : Callsign) (w : Work) (t : Table) (l : Linked) → link_with peer t.links ≡ Some l → payloads (calls.keep peer w t) + link_payloads l.link ≤ payloads t + link_payloads w.linked.link
 kept_most peer w t l e = by (is_down w.linked.link.phase)
   where
     by : (b : Bool) → all_payloads (if b then without peer t.links else with_link peer w.linked t.links) + link_payloads l.link ≤ payloads t + link_payloads w.linked.link

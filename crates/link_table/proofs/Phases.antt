@@ -1,5 +1,5 @@
 -- A step of a link that isn't Down leaves it so, or gives a notice by which it has ended.
-use Rattle.std.proofs.Common.{◌≡◌, ℕ, zero, suc, ◌-◌, Bool, true, false, not, ◌&&◌, ◌||◌, nat_eq, nat_lt, nat_le, if◌then◌else◌, List, [], ◌∷◌, ◌++◌, length, drop, min, Option, Some, None, slice_get, slice_set, refl, ap, ◌∙◌}
+use Rattle.std.proofs.Common.{◌≡◌, ℕ, suc, ◌-◌, Bool, true, false, not, ◌&&◌, ◌||◌, nat_eq, nat_lt, nat_le, if◌then◌else◌, List, [], ◌∷◌, ◌++◌, length, drop, min, Option, Some, None, slice_get, refl, ap, ◌∙◌}
 use Rattle.radio_base.specs.declared.payload.Payload.{Payload}
 use Rattle.radio_base.specs.Modulus.{place_of}
 use Rattle.ax_link.specs.declared.kind.Kind.{Kind}
@@ -9,8 +9,9 @@ use Rattle.ax_link.specs.declared.notice.LinkNotice.TheVariants.{Closed, Failed,
 use Rattle.ax_link.specs.declared.phase.LinkPhase.{LinkPhase}
 use Rattle.ax_link.specs.declared.phase.LinkPhase.TheVariants.{Down, SettingUp, Up, Releasing}
 use Rattle.ax_link.specs.State.{Frame, State, Effect, ack_place, begin, busy, count_end, high, is_up, t1_runs, t3_at, wire}
-use Rattle.ax_link.specs.Moves.{acknowledge, again, answer_poll, ask, ask_again, asks, emit_timed, end_poll, fill, fill_count, finish, frames, hold, i_at, is_free, follow_by, follow, next_early, note, on_i, on_srej, on_supervisory, emit, release, reset, resume, supply_again, resupply, rr, srej_at, start_poll, store_early, supervisory_at, supply, take_in, take_next, text, text_at, text_later, text_plain, text_srej, to_phase}
+use Rattle.ax_link.specs.Moves.{acknowledge, again, answer_poll, ask, ask_again, asks, emit_timed, end_poll, fill, fill_count, finish, frames, hold, i_at, is_free, follow, note, on_i, on_srej, on_supervisory, emit, release, reset, resume, supply_again, resupply, rr, srej_at, start_poll, store_early, supervisory_at, supply, take_in, take_next, text, text_at, text_later, text_plain, text_srej, to_phase}
 use Rattle.ax_link.specs.Table.{Input, Set_up, Send, Arrive, Tick, Close, Take, step, accept, arrive_in, arrive_releasing, arrive_setting_up, arrive_up, close_in_turn, fail_in, fail, may_close, come_up, retry, retry_in, set_up_in, takes}
+use Rattle.ax_link.proofs.Carrying.{followed_phase, stored_phase}
 use Rattle.link_table.specs.Ending.{is_end}
 use Rattle.link_table.specs.Works.{is_down}
 
@@ -76,15 +77,6 @@ on_selected now true nr g = by (ack_place g.link nr)
     by None = same g
     by (Some n) = selected now n g
 
-moved : (k : ℕ) (s : State) → (follow_by k s).phase ≡ s.phase
-moved zero s = refl
-moved (suc k) s = by (next_early s) (λ p. moved k (take_next p s))
-  where
-    by : (r : Option Payload) → ((p : Payload) → (follow_by k (take_next p s)).phase ≡ s.phase) →
-        (elim r as (λ y. State) [ None ↦ s | Some p ↦ follow_by k (take_next p s) ]).phase ≡ s.phase
-    by None more = refl
-    by (Some p) more = more p
-
 taken_in : (pf : Bool) (s : State) (g : Effect) → s.phase ≡ g.link.phase → Stays g (take_in pf s g)
 taken_in pf s g e =
     let n : Effect = record g { link = s } in
@@ -101,15 +93,11 @@ plain pf ns p g =
     if_stays (nat_eq ns (wire g.link (length g.link.received))) g (take_in pf (record (take_next p g.link) { rej_sent = false }) g) (ask_again pf g)
     (taken_in pf (record (take_next p g.link) { rej_sent = false }) g refl) (asked_again pf g)
 
-stored : (b : Bool) (i : ℕ) (p : Payload) (s : State) → (if b then record s { early = slice_set s.early i (Some p) } else s).phase ≡ s.phase
-stored true i p s = refl
-stored false i p s = refl
-
 later : (pf : Bool) (n : ℕ) (p : Payload) (g : Effect) → Stays g (text_later pf n p g)
 later pf n p g e =
     let i : ℕ = n - length g.link.received in
     let h : Effect = record g { link = store_early i p g.link; outs = g.outs ++ asks g.link (high g.link) (n - high g.link) } in
-    answered pf h (ap is_down (stored (is_free (slice_get g.link.early i)) i p g.link) ∙ e)
+    answered pf h (ap is_down (stored_phase (is_free (slice_get g.link.early i)) i p g.link) ∙ e)
 
 selective : (pf : Bool) (ns : ℕ) (p : Payload) (g : Effect) → Stays g (text_srej pf ns p g)
 selective pf ns p g = by (place_of g.link.rules.size ns (length g.link.received) g.link.rules.window)
@@ -118,7 +106,7 @@ selective pf ns p g = by (place_of g.link.rules.size ns (length g.link.received)
     by None = λ e. e
     by (Some n) =
         if_stays (nat_lt (length g.link.received) n) g (text_later pf n p g) (take_in pf (follow (take_next p g.link)) g)
-        (later pf n p g) (taken_in pf (follow (take_next p g.link)) g (moved (length (take_next p g.link).early) (take_next p g.link)))
+        (later pf n p g) (taken_in pf (follow (take_next p g.link)) g (followed_phase (length (take_next p g.link).early) (take_next p g.link)))
 
 came : (pf : Bool) (ns : ℕ) (p : Payload) (g : Effect) → Stays g (text pf ns p g)
 came pf ns p g =
@@ -135,7 +123,7 @@ on_came now pf ns nr (Some p) g = by (ack_place g.link nr)
     by (Some n) = λ e. let a : Effect = acknowledge now n g in supplied now (text pf ns p a) (came pf ns p a (acknowledged now n g e))
 
 resumed : (g : Effect) → Stays g (resume g)
-resumed g e = ap is_down (moved (length g.link.early) g.link) ∙ e
+resumed g e = ap is_down (followed_phase (length g.link.early) g.link) ∙ e
 
 -- ---- the rows
 

@@ -7,6 +7,7 @@ use Rattle.std.proofs.lemmas.List.{length-map, length-reverse, reverse-append}
 use Rattle.arrayvec.specs.ArrayVec.{ArrayVec}
 use Rattle.indexmap.specs.IndexMap.{insert_entry}
 use Rattle.radio_base.specs.declared.payload.Payload.{Payload}
+use Rattle.radio_base.proofs.Each.{each_append}
 use Rattle.ax_address.specs.Callsign.{Callsign, same_call}
 use Rattle.ax_address.specs.declared.address.Address.{Address}
 use Rattle.ax_frame.specs.declared.control.Control.{Control}
@@ -36,17 +37,13 @@ use Rattle.link_table.proofs.Carrier.{OpeningBounded}
 
 -- ---- lists
 
-both : {A : Type 0} (P : A → Type 0) (xs ys : List A) → AllByRecursion P xs → AllByRecursion P ys → AllByRecursion P (xs ++ ys)
-both P [] ys a b = b
-both P (x ∷ xs) ys a b = (a.0, both P xs ys a.1 b)
-
 rest_of : {A : Type 0} (P : A → Type 0) (xs : List A) → AllByRecursion P xs → AllByRecursion P (drop 1 xs)
 rest_of P [] a = tt
 rest_of P (x ∷ xs) a = a.1
 
 back_onto : (P : Address → Type 0) (xs : List Address) → AllByRecursion P xs → AllByRecursion P (reverse xs)
 back_onto P [] a = tt
-back_onto P (x ∷ xs) a = subst (AllByRecursion P) (sym (reverse-append (x ∷ []) xs)) (both P (reverse xs) (x ∷ []) (back_onto P xs a.1) (a.0, tt))
+back_onto P (x ∷ xs) a = subst (AllByRecursion P) (sym (reverse-append (x ∷ []) xs)) (each_append P (reverse xs) (x ∷ []) (back_onto P xs a.1) (a.0, tt))
 
 unrepeated_all : (xs : List Address) → AllByRecursion IsAddress xs → AllByRecursion IsAddress (map unrepeated xs)
 unrepeated_all [] a = tt
@@ -101,7 +98,7 @@ module _ (bounds_stay : BoundsStay) (settings_stay : SettingsStay) (written : Fr
       → AllByRecursion (CanBeWritten size) fs → AllByRecursion (IsSpelled one) (all_sent size own peer path fs)
   all_spelled size own peer path [] e m o p w a = tt
   all_spelled size own peer path (f ∷ fs) e m o p w a =
-      both (IsSpelled one) (fitting (sent_by size own peer path f)) (all_sent size own peer path fs)
+      each_append (IsSpelled one) (fitting (sent_by size own peer path f)) (all_sent size own peer path fs)
       (fits (sent_by size own peer path f) (spelled size own peer path f.command (control_of size f.kind) (pid_of f.payload) (info_of f.payload) o p w a.0.parts
       (λ n q. own_size size n f.kind (subst (λ k. (k ≡ 8) ⊎ (k ≡ 128)) (sym e) m) a.0.sets_up q ∙ e)))
       (all_spelled size own peer path fs e m o p w a.1)
@@ -125,7 +122,7 @@ module _ (bounds_stay : BoundsStay) (settings_stay : SettingsStay) (written : Fr
           peer = x.0.peer;
           path = x.0.path;
         },
-        both (IsSpelled one) w.pending.frames (all_sent size own w.linked.peer w.linked.path fs) x.1
+        each_append (IsSpelled one) w.pending.frames (all_sent size own w.linked.peer w.linked.path fs) x.1
             (all_spelled size own w.linked.peer w.linked.path fs x.0.of_size o.1 o.0 x.0.peer x.0.path (written w.linked.link i now x.0.bounds)),
       )
 
@@ -217,10 +214,10 @@ module _ (bounds_stay : BoundsStay) (settings_stay : SettingsStay) (written : Fr
   made peer size path t z p w x =
       let l : Linked = record { peer = peer; link = opening (rules_new size t.config); path = path; joiner = Nothing; called = false } in
       let h : LinkReaches one l = record { bounds = opening_bounded size t.config (subst (λ k. (k ≡ 8) ⊎ (k ≡ 128)) (sym z) x.modulus); of_size = z; peer = p; path = w } in
-      record { modulus = x.modulus; of_size = x.of_size; own = x.own; links = both (LinkReaches one) t.links (l ∷ []) x.links (h, tt); paths = x.paths; frames = x.frames }
+      record { modulus = x.modulus; of_size = x.of_size; own = x.own; links = each_append (LinkReaches one) t.links (l ∷ []) x.links (h, tt); paths = x.paths; frames = x.frames }
 
   put : (sents : List Sent) (t : Table) → AllByRecursion (IsSpelled one) sents → Reaches one t → Reaches one (record t { pending = emit sents t.pending })
-  put sents t a x = record { modulus = x.modulus; of_size = x.of_size; own = x.own; links = x.links; paths = x.paths; frames = both (IsSpelled one) t.pending.frames sents x.frames a }
+  put sents t a x = record { modulus = x.modulus; of_size = x.of_size; own = x.own; links = x.links; paths = x.paths; frames = each_append (IsSpelled one) t.pending.frames sents x.frames a }
 
   -- ---- frames that come
 

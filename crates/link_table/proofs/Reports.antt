@@ -1,5 +1,6 @@
 -- What work at one link tells of it.
 use Rattle.std.proofs.Common.{◌≡◌, ℕ, zero, suc, ◌==◌, ◌&&◌, ◌||◌, Bool, true, false, List, [], ◌∷◌, ◌++◌, map, Option, Some, None, refl, ap, sym, ◌∙◌, if◌then◌else◌, append_assoc, append-nil, slice_get}
+use Rattle.std.proofs.lemmas.Bool.{or_right}
 use Rattle.radio_base.specs.declared.payload.Payload.{Payload}
 use Rattle.ax_address.specs.Callsign.{Callsign, same_call}
 use Rattle.ax_link.specs.State.{Frame}
@@ -30,10 +31,6 @@ told_behind q (x ∷ xs) ys e = by (same_call q x.0 && is_end x.1) (told_behind 
     by true f = refl
     by false f = f
 
-pub or_second : (c d : Bool) → d ≡ true → (c || d) ≡ true
-or_second true d e = refl
-or_second false d e = e
-
 abbrev pub named : Callsign → LinkNotice → Callsign × LinkNotice
 named peer n = (peer, n)
 
@@ -43,11 +40,11 @@ told_notes q peer (n ∷ ns) e f = by (is_end n) f (λ g. told_notes q peer ns e
   where
     by : (b : Bool) → (b || any_end ns) ≡ true → (any_end ns ≡ true → tells_end q (map (named peer) ns) ≡ true) → ((same_call q peer && b) || tells_end q (map (named peer) ns)) ≡ true
     by true g rest = ap (λ c. (c && true) || tells_end q (map (named peer) ns)) e
-    by false g rest = or_second (same_call q peer && false) (tells_end q (map (named peer) ns)) (rest g)
+    by false g rest = or_right (same_call q peer && false) (tells_end q (map (named peer) ns)) (rest g)
 
-pub or_first : (a b c d : Bool) → (a ≡ true → c ≡ true) → (b ≡ true → d ≡ true) → (a || b) ≡ true → (c || d) ≡ true
-or_first true b c d f g e = let first = f refl in rw first refl
-or_first false b c d f g e = let second = g e in by c second
+pub or_both : (a b c d : Bool) → (a ≡ true → c ≡ true) → (b ≡ true → d ≡ true) → (a || b) ≡ true → (c || d) ≡ true
+or_both true b c d f g e = let first = f refl in rw first refl
+or_both false b c d f g e = let second = g e in by c second
   where
     by : (x : Bool) → d ≡ true → (x || d) ≡ true
     by true h = refl

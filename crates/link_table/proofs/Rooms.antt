@@ -4,6 +4,7 @@ use Rattle.std.specs.Prelude.{Bool, true, false, if◌then◌else◌, ◌&&◌, 
 use Rattle.std.proofs.lemmas.Bool.Decides.{nat_tests}
 use Rattle.radio_base.specs.declared.payload.Payload.{Payload}
 use Rattle.ax_address.specs.Callsign.{Callsign, same_call}
+use Rattle.ax_address.proofs.SameCalls.{same_call-true}
 use Rattle.ax_link.specs.State.{State}
 use Rattle.ax_link.specs.Table.{Send, Set_up, may_close, step, takes}
 use Rattle.ax_link.specs.declared.phase.LinkPhase.{LinkPhase}
@@ -20,7 +21,6 @@ use Rattle.link_table.specs.Texts as sending
 use Rattle.link_table.specs.Texts.{takes_texts, room, room_of}
 use Rattle.link_table.specs.Table.{Linked, Table, link_with, path_to, with_link, without}
 use Rattle.link_table.specs.Works.{Work, is_down, step_link}
-use Rattle.link_table.proofs.Finding.{same_call-true}
 use Rattle.link_table.proofs.Sending.{Accepted, accepted, length_cut, length_payloads, length_segments, room_is}
 
 -- ---- the links with others

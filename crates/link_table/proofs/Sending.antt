@@ -5,14 +5,16 @@ use Rattle.std.specs.Map.{lookup}
 use Rattle.std.specs.List.{concat}
 use Rattle.std.proofs.lemmas.Bool.Decides.{nat_tests}
 use Rattle.std.proofs.lemmas.List.{take-append-drop}
+use Rattle.std.proofs.lemmas.Bool.{and_parts}
 use Rattle.radio_base.specs.declared.payload.Payload.{Payload}
 use Rattle.ax_address.specs.Callsign.{Callsign, same_call}
 use Rattle.ax_link.specs.State.{State}
 use Rattle.ax_link.specs.State.{count_end}
 use Rattle.ax_link.specs.Table.{Send, may_close, step, takes}
-use Rattle.ax_segment.specs.Segments.{counted_down, segments_of, with_first}
+use Rattle.ax_segment.specs.Segments.{segments_of}
 use Rattle.ax_segment.specs.Segments as segments
 use Rattle.ax_segment.specs.declared.TheConstants.{FULL_PIECE}
+use Rattle.ax_segment.proofs.Cutting.{length-with_first}
 use Rattle.link_table.specs.declared.entry.LinkEntry.{LinkEntry}
 use Rattle.link_table.specs.declared.pending.Pending.{Pending}
 use Rattle.link_table.specs.declared.route.LinkRoute.{LinkRoute}
@@ -20,7 +22,7 @@ use Rattle.link_table.specs.declared.text_refusal.TextRefusal.{TextRefusal}
 use Rattle.link_table.specs.declared.text_refusal.TextRefusal.TheVariants.{NoLink, TooLong, Full}
 use Rattle.link_table.specs.Frames.{plain_text, segmented}
 use Rattle.link_table.specs.Texts as sending
-use Rattle.link_table.specs.Standing.{EntryGoes, EntryStands, LinksStand, answer_at, answer_of_entry, held_of, room_in, size_of, width}
+use Rattle.link_table.specs.Standing.{EntryGoes, EntryStands, LinksStand, answer_at, answer_of_entry, held_of, room_in, size_of}
 use Rattle.link_table.specs.Table.{Linked, Table}
 use Rattle.link_table.specs.Texts.{room_of}
 use Rattle.link_table.specs.Works.{Work, step_link}
@@ -133,17 +135,9 @@ length_segment_pieces : (n : ℕ) (text : List ℕ) → length (segments.pieces 
 length_segment_pieces zero text = refl
 length_segment_pieces (suc n) text = ap suc (length_segment_pieces n (drop FULL_PIECE text))
 
-length_counted : (ps : List (List ℕ)) → length (counted_down ps) ≡ length ps
-length_counted [] = refl
-length_counted (p ∷ ps) = ap suc (length_counted ps)
-
-length_first : (ps : List (List ℕ)) → length (with_first ps) ≡ length ps
-length_first [] = refl
-length_first (p ∷ ps) = ap suc (length_counted ps)
-
 pub length_segments : (pid : ℕ) (text : List ℕ) → length (segments_of pid text) ≡ length text / 255 + 1
 length_segments pid text =
-    let e = length_first (segments.pieces (length text / FULL_PIECE) (pid ∷ text)) in
+    let e = length-with_first (segments.pieces (length text / FULL_PIECE) (pid ∷ text)) in
     let f = length_segment_pieces (length text / FULL_PIECE) (pid ∷ text) in
     omega (arith, e, f)
 
@@ -160,10 +154,6 @@ of_link text ps now old new k k2 e g =
     }
 
 -- it goes in segments, or in pieces
-pub of_wide : (b c : Bool) (size : ℕ) → width b ≡ size → b && c ≡ (size == 128) && c
-of_wide true c size e = ap (λ n. (n == 128) && c) e
-of_wide false c size e = ap (λ n. (n == 128) && c) e
-
 pub in_segments_is : (b : Bool) (size : ℕ) (text : List ℕ) → b ≡ sending.in_segments size text → b ≡ true →
     sending.payloads_of size text ≡ sending.payloads segmented (segments_of plain_text text)
 in_segments_is b size text e q = ap (λ c. if c then sending.payloads segmented (segments_of plain_text text) else sending.payloads plain_text (sending.cut text)) (sym e ∙ q)
@@ -227,18 +217,13 @@ pub record Accepted (s : State) (p : Payload) (later : State) : Type 0 where
 pub accepted : (s : State) (p : Payload) (now : ℕ) → takes s ≡ true → Accepted s p (step s (Send p) now).link
 accepted s p now e = rw e (record { given = refl; phase = refl; closing = refl; acked = refl })
 
-halves : (a b : Bool) → a && b ≡ true → (a ≡ true) × (b ≡ true)
-halves true true e = (refl, refl)
-halves true false e = absurd (cc e)
-halves false b e = absurd (cc e)
-
 pub room_is : (s : State) → sending.takes_texts s ≡ true → room_of s ≡ min (s.acked + 128 - length s.given) (count_end - length s.given)
 room_is s e = rw e refl
 
 takes_one : (s : State) → sending.takes_texts s ≡ true → 1 ≤ room_of s → takes s ≡ true
 takes_one s e some =
     let room = room_is s e in
-    let both = halves (may_close s.phase) (not s.closing) e in
+    let both = and_parts (may_close s.phase) (not s.closing) e in
     let held : length s.given < s.acked + 128 = omega (arith, room, some) in
     let numbers : length s.given < count_end = omega (arith, room, some) in
     let first : nat_lt (length s.given) (s.acked + 128) ≡ true = grind (arith, nat_tests, held) in

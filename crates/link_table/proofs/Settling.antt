@@ -4,11 +4,13 @@ use Rattle.ax_link.specs.Bounds.{Bounded, stock}
 use Rattle.ax_link.specs.State.{count_end}
 use Rattle.radio_base.specs.declared.payload.Payload.{Payload}
 use Rattle.ax_address.specs.Callsign.{Callsign, same_call}
+use Rattle.ax_address.proofs.SameCalls.{call_refl}
 use Rattle.ax_link.specs.Moves.{first_early, follow_by, next_early, resume, take_next}
 use Rattle.ax_link.specs.State.{State, begin, busy, is_up}
 use Rattle.ax_link.specs.Table.{Send, Set_up, Take, step, takes}
 use Rattle.ax_segment.specs.Joining.{Nothing, join_step}
 use Rattle.ax_link.specs.Opening.{opening, rules_new}
+use Rattle.ax_link.proofs.PairTexts.{next_cut}
 use Rattle.l3_datagram.specs.Datagrams.{Datagram}
 use Rattle.l3_datagram.specs.declared.carrier.Offered.TheVariants.{Taken, Dropped}
 use Rattle.link_table.specs.Calls as calls
@@ -18,7 +20,6 @@ use Rattle.link_table.specs.Kept.{filled, link_payloads}
 use Rattle.link_table.specs.Table.{Linked, Table, link_with, path_to, with_link}
 use Rattle.link_table.proofs.Lifting.{untexted}
 use Rattle.link_table.specs.Works.{first_to_take, unless_text, Work, hand_up, most_taken, settle, step_link, take_payload}
-use Rattle.link_table.proofs.Finding.{call_refl}
 
 count_none : (e : List (Option Payload)) → filled (e ++ None ∷ []) ≡ filled e
 count_none [] = refl
@@ -35,13 +36,9 @@ first_gone [] p q = absurd (cc q)
 first_gone (None ∷ e) p q = absurd (cc q)
 first_gone (Some x ∷ e) p q = ap suc (count_none e)
 
-next_first : (b : Bool) (e : List (Option Payload)) (p : Payload) → (if b then None else first_early e) ≡ Some p → first_early e ≡ Some p
-next_first true e p q = absurd (cc q)
-next_first false e p q = q
-
 next_weight : (s : State) (p : Payload) → next_early s ≡ Some p → link_payloads (take_next p s) ≡ link_payloads s
 next_weight s p q =
-    let c = first_gone s.early p (next_first (busy s || nat_le count_end (length s.received)) s.early p q) in
+    let c = first_gone s.early p (next_cut (busy s || nat_le count_end (length s.received)) s.early p q) in
     let n : length (s.inbox ++ p ∷ []) ≡ length s.inbox + 1 = length-append s.inbox (p ∷ []) in
     omega (arith, c, n)
 
@@ -54,7 +51,7 @@ move_weight (suc k) s = by (next_early s) refl (λ p. move_weight k (take_next p
     by None q rest = refl
     by (Some p) q rest = rest p ∙ next_weight s p q
 
-less : (xs : List Payload) (p : Payload) → slice_get xs 0 ≡ Some p → suc (length (drop 1 xs)) ≡ length xs
+pub less : (xs : List Payload) (p : Payload) → slice_get xs 0 ≡ Some p → suc (length (drop 1 xs)) ≡ length xs
 less [] p q = absurd (cc q)
 less (x ∷ xs) p q = refl
 

@@ -1,5 +1,5 @@
 -- What is held, and what contracts see of it.
-use Rattle.std.proofs.Common.{◌≡◌, ◌==◌, ℕ, Bool, true, false, List, [], ◌∷◌, Option, Some, None, refl, ap, sym, ◌∙◌, subst}
+use Rattle.std.proofs.Common.{◌≡◌, ◌==◌, ℕ, Bool, false, List, [], ◌∷◌, Option, Some, None, ap, sym, ◌∙◌, subst}
 use Rattle.std.specs.Prelude.{Result, Ok, Err, OnOk, IfOk, is_err}
 use Rattle.std.specs.Map.{lookup}
 use Rattle.arrayvec.specs.ArrayVec.{ArrayVec}
@@ -12,7 +12,7 @@ use Rattle.link_table.specs.declared.entry.LinkEntry.{LinkEntry}
 use Rattle.link_table.specs.Calls.{is_128, is_called, link_path, offer}
 use Rattle.link_table.proofs.Links.{Found, found, none_found}
 use Rattle.link_table.specs.declared.held_links.HeldLinks.{HeldLinks}
-use Rattle.link_table.specs.Standing.{CoreGoes, CoreStands, LentStands, LinksStand, Made, TableGoes, TableStands, shown, size_of, width}
+use Rattle.link_table.specs.Standing.{CoreGoes, CoreStands, LentStands, LinksStand, Made, TableGoes, TableStands, shown, size_of}
 use Rattle.link_table.specs.Table.{Linked, Table, link_with}
 
 pub to_table : (c : HeldLinks) (spent : Bool) (t : Table) → spent ≡ false → CoreStands c t → TableStands (shown c spent) t
@@ -73,19 +73,15 @@ lent own peer es ls e s q =
 pub lent_none : (own peer : Callsign) (es : List (Callsign × LinkEntry)) (ls : List Linked) → LinksStand own es ls → lookup (same_call peer) es ≡ None → LentStands None (link_with peer ls)
 lent_none own peer es ls s q = subst (λ x. LentStands None x) (sym (none_found own peer es ls s q)) tt
 
-wide_128 : (b : Bool) → (width b == 128) ≡ b
-wide_128 true = refl
-wide_128 false = refl
-
-pub wide_is : (own peer : Callsign) (es : List (Callsign × LinkEntry)) (t : Table) (e : LinkEntry) (b : Bool) → LinksStand own es t.links → lookup (same_call peer) es ≡ Some e → width b ≡ size_of e.link →
-    b ≡ is_128 peer t
-wide_is own peer es t e b s q w =
+pub extended_is : (own peer : Callsign) (es : List (Callsign × LinkEntry)) (t : Table) (e : LinkEntry) → LinksStand own es t.links → lookup (same_call peer) es ≡ Some e →
+    (size_of e.link == 128) ≡ is_128 peer t
+extended_is own peer es t e s q =
     let f : Found own peer e t.links = found own peer es t.links e s q in
-    let size : f.link.link.rules.size ≡ width b = ap (λ (z : State). z.rules.size) f.stands.link.keeps.is ∙ sym w in
-    sym (ap (λ z. elim z as (λ x. Bool) [ None ↦ false | Some l ↦ l.link.rules.size == 128 ]) f.with ∙ ap (λ n. n == 128) size ∙ wide_128 b)
+    let size : f.link.link.rules.size ≡ size_of e.link = ap (λ (z : State). z.rules.size) f.stands.link.keeps.is in
+    sym (ap (λ z. elim z as (λ x. Bool) [ None ↦ false | Some l ↦ l.link.rules.size == 128 ]) f.with ∙ ap (λ n. n == 128) size)
 
-pub wide_none : (own peer : Callsign) (es : List (Callsign × LinkEntry)) (t : Table) → LinksStand own es t.links → lookup (same_call peer) es ≡ None → false ≡ is_128 peer t
-wide_none own peer es t s q = sym (ap (λ z. elim z as (λ x. Bool) [ None ↦ false | Some l ↦ l.link.rules.size == 128 ]) (none_found own peer es t.links s q))
+pub extended_none : (own peer : Callsign) (es : List (Callsign × LinkEntry)) (t : Table) → LinksStand own es t.links → lookup (same_call peer) es ≡ None → false ≡ is_128 peer t
+extended_none own peer es t s q = sym (ap (λ z. elim z as (λ x. Bool) [ None ↦ false | Some l ↦ l.link.rules.size == 128 ]) (none_found own peer es t.links s q))
 
 -- who set a link up
 

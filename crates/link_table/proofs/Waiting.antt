@@ -233,7 +233,7 @@ offer_keeps to d now t = by t.by_links
     by true = link_keeps to d now t
     by false = refl
 
-each_keeps : (own : Callsign) (ps : List Payload) (now : ℕ) (w : Work) → (texts.send_each own ps now w).pending.waiting ≡ w.pending.waiting
+pub each_keeps : (own : Callsign) (ps : List Payload) (now : ℕ) (w : Work) → (texts.send_each own ps now w).pending.waiting ≡ w.pending.waiting
 each_keeps own [] now w = refl
 each_keeps own (p ∷ ps) now w = each_keeps own ps now (step_link own (Send p) now w)
 

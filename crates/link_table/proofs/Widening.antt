@@ -1,8 +1,8 @@
 -- What a table carries, by weaker properties; and that a frame with numbers brings nothing where no link stands.
-use Rattle.std.proofs.Common.{◌≡◌, ℕ, ◌==◌, Bool, true, false, List, [], ◌∷◌, Option, Some, None, refl, ap, sym, ◌∙◌, subst, if◌then◌else◌, ◌||◌}
+use Rattle.std.proofs.Common.{◌≡◌, ℕ, ◌==◌, Bool, true, false, [], Option, Some, None, refl, ap, sym, ◌∙◌, subst, if◌then◌else◌, ◌||◌}
 use Rattle.std.specs.Prelude.{not}
-use Rattle.std.specs.List.{AllByRecursion}
 use Rattle.radio_base.specs.declared.payload.Payload.{Payload}
+use Rattle.radio_base.proofs.Each.{each_map}
 use Rattle.ax_address.specs.Callsign.{Callsign}
 use Rattle.ax_frame.specs.declared.control.Control.{Control}
 use Rattle.ax_frame.specs.declared.control.Control.TheVariants as control
@@ -16,15 +16,11 @@ use Rattle.link_table.specs.Table.{Linked, Table, link_with}
 
 -- ---- weaker properties
 
-all_map : {A : Type 0} (P Q : A → Type 0) → ((x : A) → P x → Q x) → (xs : List A) → AllByRecursion P xs → AllByRecursion Q xs
-all_map P Q f [] a = tt
-all_map P Q f (x ∷ xs) a = (f x a.0, all_map P Q f xs a.1)
-
 if_map : (one other : Payload → Bool) → ((p : Payload) → Has one p → Has other p) → (o : Option Payload) → HasIf one o → HasIf other o
 if_map one other f None a = tt
 if_map one other f (Some p) a = f p a
 
-or_map : (b c d : Bool) → (c ≡ true → d ≡ true) → (b || c) ≡ true → (b || d) ≡ true
+pub or_map : (b c d : Bool) → (c ≡ true → d ≡ true) → (b || c) ≡ true → (b || d) ≡ true
 or_map true c d f e = refl
 or_map false c d f e = f e
 
@@ -39,10 +35,10 @@ module _ (offered offered2 came came2 : Callsign → Payload → Bool) (sizes : 
       record {
         bounds = h.bounds;
         payloads = record {
-          given = all_map (Has given) (Has given2) (goes l.peer) l.link.given h.payloads.given;
-          received = all_map (Has (came l.peer)) (Has (came2 l.peer)) (on l.peer) l.link.received h.payloads.received;
-          inbox = all_map (Has (came l.peer)) (Has (came2 l.peer)) (on l.peer) l.link.inbox h.payloads.inbox;
-          early = all_map (HasIf (came l.peer)) (HasIf (came2 l.peer)) (if_map (came l.peer) (came2 l.peer) (on l.peer)) l.link.early h.payloads.early;
+          given = each_map (Has given) (Has given2) (goes l.peer) l.link.given h.payloads.given;
+          received = each_map (Has (came l.peer)) (Has (came2 l.peer)) (on l.peer) l.link.received h.payloads.received;
+          inbox = each_map (Has (came l.peer)) (Has (came2 l.peer)) (on l.peer) l.link.inbox h.payloads.inbox;
+          early = each_map (HasIf (came l.peer)) (HasIf (came2 l.peer)) (if_map (came l.peer) (came2 l.peer) (on l.peer)) l.link.early h.payloads.early;
         };
         size = h.size;
       }
@@ -54,9 +50,9 @@ module _ (offered offered2 came came2 : Callsign → Payload → Bool) (sizes : 
   widened t c = record {
     modulus = c.modulus;
     size = c.size;
-    links = all_map (LinkHolds offered came sizes) (LinkHolds offered2 came2 sizes) link_widened t.links c.links;
-    waiting = all_map (ParcelCame offered came sizes) (ParcelCame offered2 came2 sizes) (λ p a. on p.0 (pack p.1) a) t.pending.waiting c.waiting;
-    frames = all_map (FrameHolds offered came sizes) (FrameHolds offered2 came2 sizes) frame_widened t.pending.frames c.frames;
+    links = each_map (LinkHolds offered came sizes) (LinkHolds offered2 came2 sizes) link_widened t.links c.links;
+    waiting = each_map (ParcelCame offered came sizes) (ParcelCame offered2 came2 sizes) (λ p a. on p.0 (pack p.1) a) t.pending.waiting c.waiting;
+    frames = each_map (FrameHolds offered came sizes) (FrameHolds offered2 came2 sizes) frame_widened t.pending.frames c.frames;
   }
 
 pub carries_by_weaker : CarriesByWeaker

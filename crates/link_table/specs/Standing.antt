@@ -13,6 +13,9 @@ use Rattle.ax_link.specs.Table.{may_close, Input, Send, step, takes}
 use Rattle.l3_datagram.specs.declared.carrier.Offered.{Offered}
 use Rattle.l3_datagram.specs.declared.carrier.Offered.TheVariants.{Taken, Dropped}
 use Rattle.ax_segment.specs.Joining.{HeldMessage as Joined, join_step, IsWithin}
+use Rattle.radio_base.specs.Modulus.{modulus_size}
+use Rattle.radio_base.specs.declared.modulus.LinkModulus.{LinkModulus}
+use Rattle.radio_base.specs.declared.modulus.LinkModulus.TheVariants.{Modulo8, Modulo128}
 use Rattle.radio_base.specs.declared.payload.Payload.{Payload}
 use Rattle.l3_datagram.specs.Datagrams.{Parcel, CarrierCall, Collect, Fail, Offer}
 use Rattle.link_table.specs.declared.link_of.LinkOf.{LinkOf}
@@ -36,9 +39,12 @@ use Rattle.std.specs.Map.{lookup, remove_entry}
 use Rattle.link_table.specs.Texts.{first_text, most_text, payloads_of}
 use Rattle.link_table.specs.Works.{Work, is_down, joiner_after, lost_by}
 
+abbrev pub modulus_of : LinkOf → LinkModulus
+modulus_of (Eight l) = Modulo8
+modulus_of (Wide l) = Modulo128
+
 abbrev pub size_of : LinkOf → ℕ
-size_of (Eight l) = 8
-size_of (Wide l) = 128
+size_of l = modulus_size (modulus_of l)
 
 abbrev pub held_of : LinkOf → LinkView
 held_of (Eight l) = l
@@ -96,9 +102,9 @@ pub record HandsUp (p : Payload) (peer : Callsign) (j j2 : Joined) (keep kept2 :
   pub notices : kept2.notices.items ≡ keep.notices.items
   pub frames : kept2.frames.items ≡ keep.frames.items
 
--- the modulus, by whether it is the greater one
-abbrev pub width : Bool → ℕ
-width wide = if wide then 128 else 8
+-- how many numbers the links have that a node sets up itself. A search looks into what stands for a table, and isn't to go by the cases of this
+unfoldable pub kept_size : LinkModulus → ℕ
+kept_size modulus = modulus_size modulus
 
 -- a link of the table
 pub record LinkStands (node key : Callsign) (e : LinkEntry) (l : Linked) : Type 0 where
@@ -126,7 +132,7 @@ AllDrained (e ∷ es) = IsDrained (held_of e.1.link) × AllDrained es
 pub record CoreStands (c : HeldLinks) (t : Table) : Type 0 where
   pub own : t.own ≡ c.own
   pub by_links : t.by_links ≡ c.by_links
-  pub size : t.size ≡ width c.wide
+  pub size : t.size ≡ kept_size c.modulus
   pub config : t.config ≡ c.config
   pub links : LinksStand c.own c.links.entries t.links
   pub paths : t.paths ≡ c.paths.entries
@@ -183,7 +189,7 @@ drop_if_down peer es = if down_at peer es then remove_entry (same_call peer) es 
 pub record TableView : Type 0 where
   pub own : Callsign
   pub by_links : Bool
-  pub wide : Bool
+  pub modulus : LinkModulus
   pub config : LinkConfig
   pub links : List (Callsign × LinkEntry)
   pub paths : List Via
@@ -198,7 +204,7 @@ shown c spent =
     record {
       own = c.own;
       by_links = c.by_links;
-      wide = c.wide;
+      modulus = c.modulus;
       config = c.config;
       links = c.links.entries;
       paths = c.paths.entries;
@@ -214,7 +220,7 @@ pub record TableStands (k : TableView) (t : Table) : Type 0 where
   pub spent : k.spent ≡ false
   pub own : t.own ≡ k.own
   pub by_links : t.by_links ≡ k.by_links
-  pub size : t.size ≡ width k.wide
+  pub size : t.size ≡ kept_size k.modulus
   pub config : t.config ≡ k.config
   pub links : LinksStand k.own k.links t.links
   pub paths : t.paths ≡ k.paths
@@ -288,17 +294,13 @@ pub record SameEntry (old new : LinkEntry) : Type 0 where
   pub called : new.called ≡ old.called
   pub size : size_of new.link ≡ size_of old.link
 
-abbrev pub is_wide : LinkOf → Bool
-is_wide (Eight l) = false
-is_wide (Wide l) = true
+-- the modulus of the link with a peer, where one stands
+abbrev pub modulus_by : Option LinkEntry → Option LinkModulus
+modulus_by None = None
+modulus_by (Some e) = Some (modulus_of e.link)
 
--- whether the link with a peer is of modulo 128, where one stands
-abbrev pub wide_by : Option LinkEntry → Option Bool
-wide_by None = None
-wide_by (Some e) = Some (is_wide e.link)
-
-abbrev pub wide_at : Callsign → List (Callsign × LinkEntry) → Option Bool
-wide_at peer es = wide_by (lookup (same_call peer) es)
+abbrev pub modulus_at : Callsign → List (Callsign × LinkEntry) → Option LinkModulus
+modulus_at peer es = modulus_by (lookup (same_call peer) es)
 
 -- a link that is lent stands for the one of the table: none where none stands
 abbrev pub LentStands : Option LinkOf → Option Linked → Type 0

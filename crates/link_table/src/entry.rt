@@ -1,4 +1,5 @@
-//! A link of the table, with its route and its joiner: its steps (AX.25 2.2, section 6).
+//! A link of the table, with its route and its joiner: its steps (AX.25 2.2, section 6). Called by `held_links`, `offers`, `text_calls` and
+//! `texts`.
 ghost use Rattle.std.specs.Prelude.{◌≡◌, ◌≤◌, ℕ, OnOk, IfOk, not, ◌&&◌, false};
 ghost use Rattle.ax_link.specs.State.{count_end};
 ghost use Rattle.ax_frame.specs.FrameText.{is_command};
@@ -7,7 +8,7 @@ ghost use Rattle.ax_link.specs.Opening.{opening, rules_new};
 ghost use Rattle.ax_link.specs.Standing.{IsDrained, StandsFor};
 ghost use Rattle.ax_link.specs.Table as table;
 ghost use Rattle.ax_segment.specs.Joining.{Nothing};
-ghost use Rattle.link_table.specs.Standing.{width};
+ghost use Rattle.radio_base.specs.Modulus.{modulus_size};
 ghost use Rattle.link_table.specs.Works as works;
 
 use crate::LinkOf;
@@ -17,7 +18,7 @@ use ax_address::Path;
 use ax_frame::{Control, FrameView, is_command};
 use ax_link::{LinkConfig, LinkPhase};
 use ax_segment::Joiner;
-use radio_base::{COUNT_MAX, Moment, NoMemory};
+use radio_base::{COUNT_MAX, LinkModulus, Moment, NoMemory};
 use std::alloc::Global;
 
 /// The most payloads that a link holds.
@@ -34,27 +35,27 @@ pub(crate) struct LinkEntry {
 }
 
 impl LinkEntry {
-    ghost use Rattle.link_table.specs.Standing.{EntryGoes, held_of, room_in, size_of};
+    ghost use Rattle.link_table.specs.Standing.{EntryGoes, held_of, modulus_of, room_in, size_of};
 
     /// A link that is Down.
     pub(crate) fn new(
         alloc: Global,
-        wide: bool,
+        modulus: LinkModulus,
         config: LinkConfig,
         route: LinkRoute,
     ) -> Result<LinkEntry, NoMemory>
         requires t1 { config.t1 ≤ count_end }
         requires t3 { config.t3 ≤ count_end }
-        ensures width { IfOk result (λ e. size_of e.link ≡ width wide) }
-        ensures link { IfOk result (λ e. StandsFor (width wide) (held_of e.link)
-            (opening (rules_new (width wide) config))) }
+        ensures modulus { IfOk result (λ e. modulus_of e.link ≡ modulus) }
+        ensures link { IfOk result (λ e. StandsFor (modulus_size modulus) (held_of e.link)
+            (opening (rules_new (modulus_size modulus) config))) }
         ensures drained { IfOk result (λ e. IsDrained (held_of e.link)) }
         ensures route { IfOk result (λ e. e.route ≡ route) }
         ensures joiner { IfOk result (λ e. e.joiner ≡ Nothing) }
         ensures called { IfOk result (λ e. e.called ≡ false) }
     {
         Ok(LinkEntry {
-            link: LinkOf::new(alloc, wide, config)?,
+            link: LinkOf::new(alloc, modulus, config)?,
             route,
             joiner: Joiner::new(alloc),
             called: false,
@@ -79,10 +80,10 @@ impl LinkEntry {
         matches!(self.link.phase(), LinkPhase::Down)
     }
 
-    pub(crate) fn is_wide(&self) -> bool
-        ensures { width result ≡ size_of self.now.link }
+    pub(crate) fn modulus(&self) -> LinkModulus
+        ensures { result ≡ modulus_of self.now.link }
     {
-        self.link.is_wide()
+        self.link.modulus()
     }
 
     /// Whether the link takes texts: it is being set up or is Up, and isn't being closed.
@@ -117,7 +118,7 @@ impl LinkEntry {
         if self.called {
             return true;
         }
-        if !is_set_up(frame, self.is_wide()) {
+        if !is_set_up(frame, self.modulus()) {
             return false;
         }
         matches!(self.link.phase(), LinkPhase::Down | LinkPhase::Up)
@@ -173,13 +174,13 @@ impl LinkEntry {
 }
 
 /// Whether a frame sets up a link of this modulus: a command does.
-fn is_set_up(frame: &FrameView<'_>, wide: bool) -> bool
-    ensures { result ≡ works.is_set_up (kind_of (width wide) (is_command frame.now.head) frame.now.control) }
+fn is_set_up(frame: &FrameView<'_>, modulus: LinkModulus) -> bool
+    ensures { result ≡ works.is_set_up
+        (kind_of (modulus_size modulus) (is_command frame.now.head) frame.now.control) }
 {
-    let command = is_command(&frame.head);
-    match frame.control {
-        Control::Sabm { .. } => command && !wide,
-        Control::Sabme { .. } => command && wide,
+    match (frame.control, modulus) {
+        (Control::Sabm { .. }, LinkModulus::Modulo8)
+        | (Control::Sabme { .. }, LinkModulus::Modulo128) => is_command(&frame.head),
         _ => false,
     }
 }

@@ -1,4 +1,5 @@
-//! The links of a node, whether or not memory has run out: frames that come, ticks, and links that end (AX.25 2.2, section 6).
+//! The links of a node, whether or not memory has run out: frames that come, ticks, and links that end (AX.25 2.2, section 6). Called by
+//! `offer_calls`, `send_calls`, `table` and `text_calls`.
 ghost use Rattle.std.specs.Prelude.{◌≡◌, ◌≤◌, ◌<◌, ℕ, List, None, Some, OnOk, IfOk, if◌then◌else◌, map, length, is_some, true, ◌∷◌, []};
 ghost use Rattle.ax_link.specs.State.{count_end};
 ghost use Rattle.indexmap.specs.IndexMap.{shift_remove_entry, keys};
@@ -9,6 +10,7 @@ ghost use Rattle.ax_address.specs.Callsign.{same_call};
 ghost use Rattle.ax_link.specs.Table as table;
 ghost use Rattle.link_table.specs.Works as works;
 ghost use Rattle.link_table.specs.Calls as calls;
+ghost use Rattle.radio_base.specs.Modulus.{modulus_size};
 
 use crate::MAX_LINKS;
 use crate::answers::{answer, refusal, way_back};
@@ -22,7 +24,7 @@ use ax_frame::{Control, FrameView, is_command};
 use ax_link::{LinkConfig, LinkNotice};
 use indexmap::IndexMap;
 use l3_datagram::MAX_DATAGRAM;
-use radio_base::{Moment, NETROM_PID, NoMemory};
+use radio_base::{LinkModulus, Moment, NETROM_PID, NoMemory};
 use std::alloc::Global;
 
 #[derive(Drop)]
@@ -30,7 +32,8 @@ pub(crate) struct HeldLinks {
     pub(crate) alloc: Global,
     pub(crate) own: Call,
     pub(crate) by_links: bool,
-    pub(crate) wide: bool,
+    /// The modulus of the links that the node itself sets up.
+    pub(crate) modulus: LinkModulus,
     pub(crate) config: LinkConfig,
     pub(crate) links: IndexMap<Call, LinkEntry>,
     pub(crate) paths: IndexMap<Call, Path>,
@@ -41,14 +44,14 @@ pub(crate) struct HeldLinks {
 
 impl HeldLinks {
     ghost use Rattle.link_table.specs.Table.{Table, path_to};
-    ghost use Rattle.link_table.specs.Standing.{CoreGoes, CoreStands, Rests, down_at, drop_if_down, wide_at, width};
+    ghost use Rattle.link_table.specs.Standing.{CoreGoes, CoreStands, Rests, down_at, drop_if_down, modulus_at};
 
-    /// Whether the link with a peer is of modulo 128: none where no link stands.
-    fn width(&self, peer: &Call) -> Option<bool>
-        ensures { result ≡ wide_at peer.now self.now.links.entries }
+    /// The modulus of the link with a peer: none where no link stands.
+    fn modulus_with(&self, peer: &Call) -> Option<LinkModulus>
+        ensures { result ≡ modulus_at peer.now self.now.links.entries }
     {
         match self.links.get(peer) {
-            Some(entry) => Some(entry.is_wide()),
+            Some(entry) => Some(entry.modulus()),
             None => None,
         }
     }
@@ -86,18 +89,18 @@ impl HeldLinks {
     }
 
     /// One link more, which is Down.
-    pub(crate) fn make(&mut self, wide: bool, route: LinkRoute) -> Result<(), NoMemory>
+    pub(crate) fn make(&mut self, modulus: LinkModulus, route: LinkRoute) -> Result<(), NoMemory>
         requires rests { Rests self.old }
         requires none { lookup (same_call route.peer) self.old.links.entries ≡ None }
         requires room { length self.old.links.entries < calls.most_links }
         requires own { route.own ≡ self.old.own }
         ensures rests { OnOk result (Rests self.new) }
-        ensures goes { OnOk result (CoreGoes (calls.made route.peer (width wide) route.path) self.old self.new) }
+        ensures goes { OnOk result (CoreGoes (calls.made route.peer (modulus_size modulus) route.path) self.old self.new) }
         ensures same { OnOk result (self.new ≡ record self.old { links = self.new.links }) }
         ensures pending { self.new.pending ≡ self.old.pending }
     {
         let peer = route.peer;
-        let entry = LinkEntry::new(self.alloc, wide, self.config, route)?;
+        let entry = LinkEntry::new(self.alloc, modulus, self.config, route)?;
         self.links.insert(peer, entry)?;
         Ok(())
     }
@@ -162,7 +165,7 @@ impl HeldLinks {
 
     fn set_up_new(
         &mut self,
-        wide: bool,
+        modulus: LinkModulus,
         pf: bool,
         frame: &FrameView<'_>,
         now: Moment,
@@ -171,41 +174,41 @@ impl HeldLinks {
         requires none { lookup (same_call (calls.source (view frame.now))) self.old.links.entries ≡ None }
         ensures rests { OnOk result (Rests self.new) }
         ensures goes { OnOk result (CoreGoes
-            (calls.set_up_new (width wide) pf (view frame.now) now.0) self.old self.new) }
+            (calls.set_up_new (modulus_size modulus) pf (view frame.now) now.0) self.old self.new) }
     {
         if self.links.len() >= MAX_LINKS {
             self.answer(frame, &Control::Dm { pf }, &[])?;
             return Ok(());
         }
         let route = way_back(&self.own, frame);
-        self.make(wide, route)?;
+        self.make(modulus, route)?;
         self.to_link(frame, now)?;
         Ok(())
     }
 
     fn set_up(
         &mut self,
-        wide: bool,
+        modulus: LinkModulus,
         pf: bool,
         frame: &FrameView<'_>,
         now: Moment,
     ) -> Result<(), NoMemory>
         requires { Rests self.old }
         ensures rests { OnOk result (Rests self.new) }
-        ensures goes { OnOk result (CoreGoes (calls.set_up (width wide) pf (view frame.now) now.0) self.old self.new) }
+        ensures goes { OnOk result (CoreGoes (calls.set_up (modulus_size modulus) pf (view frame.now) now.0) self.old self.new) }
     {
-        match self.width(&frame.head.source.call) {
+        match self.modulus_with(&frame.head.source.call) {
             None => {
-                self.set_up_new(wide, pf, frame, now)?;
+                self.set_up_new(modulus, pf, frame, now)?;
                 Ok(())
             }
             Some(of_link) => {
-                if of_link == wide {
+                if of_link == modulus {
                     self.to_link(frame, now)?;
                     return Ok(());
                 }
                 self.end(&frame.head.source.call, LinkNotice::Closed)?;
-                self.set_up_new(wide, pf, frame, now)?;
+                self.set_up_new(modulus, pf, frame, now)?;
                 Ok(())
             }
         }
@@ -288,8 +291,8 @@ impl HeldLinks {
         match frame.control {
             Control::Ui { .. } => self.ui(frame)?,
             Control::Test { pf } => self.answer(frame, &Control::Test { pf }, frame.info)?,
-            Control::Sabm { pf } => self.set_up(false, pf, frame, now)?,
-            Control::Sabme { pf } => self.set_up(true, pf, frame, now)?,
+            Control::Sabm { pf } => self.set_up(LinkModulus::Modulo8, pf, frame, now)?,
+            Control::Sabme { pf } => self.set_up(LinkModulus::Modulo128, pf, frame, now)?,
             _ => self.no_set_up(true, frame, now)?,
         }
         Ok(())

@@ -1,4 +1,4 @@
-//! What the definitions promise by themselves.
+//! Laws of the definitions of a node's links alone. Called by `table`, and by the laws of `node_core`.
 ghost use Rattle.std.specs.Prelude.{◌≡◌};
 ghost use Rattle.link_table.specs.Calls.{AnsweredAsDown};
 ghost use Rattle.link_table.specs.Called.{OnlyFramesCall};

@@ -30,7 +30,7 @@ pub use open_refusal::OpenRefusal;
 pub use path_refusal::PathRefusal;
 pub use table::LinkTable;
 pub use text_refusal::TextRefusal;
-pub use written::{Written, WrittenAs};
+pub use written::Written;
 
 /// The most links of a node (this project's profile).
 pub const MAX_LINKS: usize = 64;

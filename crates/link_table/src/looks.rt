@@ -1,4 +1,4 @@
-//! What a table of links shows: its links by peer, and what waits at them.
+//! What a table of links shows: its links by peer, and what waits at them. Called by `node_core`.
 ghost use Rattle.std.specs.Prelude.{◌≡◌, is_some, map, slice_get};
 ghost use Rattle.std.specs.Option.{option_copied};
 ghost use Rattle.link_table.specs.Calls as calls;
@@ -49,7 +49,7 @@ impl LinkTable {
         ensures { (t : Table) → TableStands self.now t → result ≡ calls.is_128 peer.now t }
     {
         match self.core.links.get(peer) {
-            Some(entry) => entry.is_wide(),
+            Some(entry) => entry.modulus().is_128(),
             None => false,
         }
     }

@@ -1,4 +1,4 @@
-//! The octets of a frame that waits.
+//! The octets of a frame that waits. Called by `pending` and `written`, and by `node_core` and the replay.
 use ax_frame::FrameBytes;
 use radio_base::NoMemory;
 use std::alloc::Global;

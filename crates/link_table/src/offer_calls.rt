@@ -75,7 +75,7 @@ impl HeldLinks {
             peer: *peer,
             path,
         };
-        self.make(self.wide, route)?;
+        self.make(self.modulus, route)?;
         self.set_up_link(peer, now)?;
         Ok(())
     }

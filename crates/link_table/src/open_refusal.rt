@@ -1,4 +1,4 @@
-//! Why a link isn't opened.
+//! Why a link isn't opened. Used by `offer_calls` and `table`, and by `node_core`.
 
 /// Why a link isn't opened.
 #[derive(Clone, Copy, Debug, PartialEq, Eq)]

@@ -12,7 +12,6 @@ use crate::TextRefusal;
 use crate::entry::LinkEntry;
 use crate::pending::Pending;
 use crate::texts::MAX_TEXT;
-use arrayvec::ArrayVec;
 use ax_segment::{FULL_PIECE, Split};
 use radio_base::{MAX_INFO, Moment, NoMemory, Payload, TEXT_PID};
 
@@ -35,7 +34,7 @@ impl LinkEntry {
         Ok(())
     }
 
-    /// As how many payloads a text goes over the link.
+    /// How many payloads a text becomes on the link.
     fn payload_count(&self, text: &[u8]) -> usize
         ensures { result ≡ length (sending.payloads_of (size_of self.now.link) text.now) }
     {
@@ -49,7 +48,7 @@ impl LinkEntry {
     fn in_segments(&self, text: &[u8]) -> bool
         ensures { result ≡ sending.in_segments (size_of self.now.link) text.now }
     {
-        self.is_wide() && text.len() > MAX_INFO
+        self.modulus().is_128() && text.len() > MAX_INFO
     }
 
     /// Sends a text over the link, in segments or in pieces.
@@ -89,7 +88,7 @@ impl LinkEntry {
         let mut rest = text;
         while !rest.is_empty() {
             let (piece, later) = rest.split_at(rest.len().min(MAX_INFO));
-            let payload = payload_of(TEXT_PID, piece);
+            let payload = Payload::of(TEXT_PID, piece);
             self.give(pending, &payload, now)?;
             rest = later;
         }
@@ -158,19 +157,6 @@ impl LinkEntry {
             Err(_) => Ok(()),
         }
     }
-}
-
-/// A payload of these octets, which are put where it stands, so that they are copied once.
-pub(crate) fn payload_of(pid: u8, info: &[u8]) -> Payload
-    requires { length info.now ≤ 256 }
-    ensures { result ≡ sending.payload pid info.now }
-{
-    let mut payload = Payload {
-        pid,
-        info: ArrayVec::new(),
-    };
-    let _ = payload.info.try_extend_from_slice(info);
-    payload
 }
 
 fn piece_count(text: &[u8]) -> usize

@@ -1,4 +1,5 @@
-//! The table of links, and what it is to a router: a carrier of datagrams (AX.25 2.2, section 6; NET/ROM, Appendix B).
+//! The table of links, and what it is to a router: a carrier of datagrams (AX.25 2.2, section 6; NET/ROM, Appendix B). Called by
+//! `node_core`.
 ghost use Rattle.std.specs.Prelude.{◌≡◌, ◌≤◌, ◌<◌, ◌↔◌, ℕ, List, [], ◌∷◌, Bool, true, false, None, Some, OnOk, OnErr, IfOk, IsOk, IsErr, IsErrOf, IsTrue, slice_get, drop, length};
 ghost use Rattle.ax_link.specs.State.{count_end};
 ghost use Rattle.l3_datagram.specs.Datagrams.{Collect, Fail, Offer};
@@ -14,7 +15,7 @@ use ax_frame::FrameView;
 use ax_link::{LinkConfig, LinkNotice};
 use indexmap::IndexMap;
 use l3_datagram::{Carrier, Datagram, Message, Offered};
-use radio_base::{Moment, NoMemory};
+use radio_base::{LinkModulus, Moment, NoMemory};
 use std::alloc::Global;
 use std::marker::Model;
 
@@ -74,7 +75,8 @@ impl Model for LinkTable {
 }
 
 impl LinkTable {
-    ghost use Rattle.link_table.specs.Standing.{NotNoMemory, OpenNotNoMemory, TableGoes, TableStands, TextNotNoMemory, text_given, width};
+    ghost use Rattle.link_table.specs.Standing.{NotNoMemory, OpenNotNoMemory, TableGoes, TableStands, TextNotNoMemory, text_given};
+    ghost use Rattle.radio_base.specs.Modulus.{extended_if, modulus_size};
     ghost use Rattle.link_table.specs.Table.{written};
     ghost use Rattle.link_table.specs.Kept.{KeepsOn};
     ghost use Rattle.ax_frame.specs.Frames.{view};
@@ -86,6 +88,7 @@ impl LinkTable {
     /// A table without links, of the node `own`. With `links`, datagrams go over links, else each in a UI frame; links that
     /// the node itself sets up are of modulo 128 where `modulo128` says so, else of modulo 8. The times of `config` are at
     /// most 2^62 ms.
+    #[tactic(auto, unfolding(crate::specs::Standing::kept_size))]
     pub fn new(
         alloc: Global,
         own: Call,
@@ -95,7 +98,8 @@ impl LinkTable {
     ) -> Result<LinkTable, NoMemory>
         requires t1 { config.t1 ≤ count_end }
         requires t3 { config.t3 ≤ count_end }
-        ensures stands { IfOk result (λ table. TableStands table (calls.no_links own links (width modulo128) config)) }
+        ensures stands { IfOk result (λ table. TableStands table (calls.no_links own links
+            (modulus_size (extended_if modulo128)) config)) }
         ensures ok { IsOk result }
     {
         Ok(LinkTable {
@@ -103,7 +107,7 @@ impl LinkTable {
                 alloc,
                 own,
                 by_links: links,
-                wide: modulo128,
+                modulus: LinkModulus::extended_if(modulo128),
                 config,
                 links: IndexMap::new(alloc),
                 paths: IndexMap::new(alloc),

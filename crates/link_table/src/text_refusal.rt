@@ -1,4 +1,4 @@
-//! Why a text isn't sent.
+//! Why a text isn't sent. Used by `send_calls`, `sends` and `table`, and by `node_core`.
 /// Why a text isn't sent. Nothing of it went out then.
 #[derive(Clone, Copy, Debug, PartialEq, Eq)]
 pub enum TextRefusal {

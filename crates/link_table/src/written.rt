@@ -1,38 +1,13 @@
-//! Frames in octets, as a node hands them out.
-ghost use Rattle.std.specs.Prelude.{◌≡◌};
-ghost use Rattle.link_table.specs.Table as fetching;
-
+//! Frames in octets, as a node hands them out. Made by `pending`, and by `node_core` for broadcasts and repeated frames.
 use crate::Octets;
-use radio_base::Modulus;
-
-/// How a frame was written in octets. The octets alone don't tell it.
-#[derive(Clone, Copy, Debug, PartialEq, Eq)]
-pub enum WrittenAs {
-    /// With sequence numbers modulo 8, or without numbers.
-    Modulo8,
-    /// With sequence numbers modulo 128.
-    Modulo128,
-    /// As it came: the frame is one of another station, and is repeated.
-    AsItCame,
-}
-
-impl WrittenAs {
-    /// How a frame of this modulus is written.
-    pub(crate) fn of<M: Modulus>() -> WrittenAs
-        ensures { result ≡ fetching.how_written M.SIZE }
-    {
-        if M::SIZE == 8 {
-            WrittenAs::Modulo8
-        } else {
-            WrittenAs::Modulo128
-        }
-    }
-}
+use radio_base::LinkModulus;
 
 /// A frame that waits to be sent.
 #[derive(Debug, Drop, PartialEq, Eq)]
 pub struct Written {
     /// From the first address octet to the last one of the information.
     pub octets: Octets,
-    pub how: WrittenAs,
+    /// By which modulus its sequence numbers were written, which the octets alone don't tell: modulo 8 where it has none. None
+    /// where it is repeated as it came from another station.
+    pub modulus: Option<LinkModulus>,
 }

@@ -2,7 +2,7 @@
 use Rattle.std.proofs.Common.{◌≡◌, inr, inl, ℕ, List}
 use Rattle.network_file.specs.Networks.{network_of}
 use Rattle.network_file.specs.Plan.{Plan}
-use Rattle.net_replay.specs.Circuits.{IsNetwork}
+use Rattle.net_model.specs.Circuits.{IsNetwork}
 use Rattle.cmd_streams.specs.declared.status.Status.{Status}
 use Rattle.cmd_streams.specs.Reading.{ReadsAll}
 use Rattle.cmd_streams.specs.Told.{StreamsTold, TellsGoodFile}

@@ -5,6 +5,7 @@ use Rattle.kiss_framing.specs.Stream.{Item}
 use Rattle.kiss_framing.specs.Feeding.{handed_out}
 use Rattle.kiss_framing.specs.declared.item.KissItem.{KissItem}
 use Rattle.kiss_framing.specs.declared.item.KissItem.TheVariants as kiss
+use Rattle.kiss_framing.proofs.Handing.{handed_is}
 use Rattle.frame_lines.specs.Hearing.{Listening, by_item, by_items, item_of}
 
 abbrev both : Listening → List ℕ → Listening × List ℕ
@@ -19,11 +20,7 @@ items_add l (item ∷ items) more =
     let next = (by_item l item).0 in
     ahead (by_item l item).1 (by_items next (items ++ more)) (by_items (by_items next items).0 more).0 (by_items next items).1 (by_items (by_items next items).0 more).1 (items_add next items more)
 
-one : (item : KissItem) → handed_out (Some item) ≡ item_of item ∷ []
-one (kiss.Frame port command payload) = refl
-one kiss.TooLong = refl
-
 -- the items of a stream, and one more
 pub one_more : (l last next : Listening) (before : List Item) (item : KissItem) (text more : List ℕ) → by_items l before ≡ (last, text) → next ≡ (by_item last (item_of item)).0 → more ≡ (by_item last (item_of item)).1 → by_items l (before ++ handed_out (Some item)) ≡ (next, text ++ more)
 one_more l last next before item text more e n m =
-    rw (one item) (items_add l before (item_of item ∷ []) ∙ rw (e, n, m, append-nil (by_item last (item_of item)).1) refl)
+    rw (handed_is item) (items_add l before (item_of item ∷ []) ∙ rw (e, n, m, append-nil (by_item last (item_of item)).1) refl)

@@ -1,5 +1,5 @@
 -- How each command ends.
-use Rattle.std.specs.Prelude.{ℕ, ◌≡◌, ◌≢◌, ◌⊎◌, List, [], None}
+use Rattle.std.specs.Prelude.{ℕ, ◌≡◌, ◌≢◌, ◌⊎◌, List, [], Option, None}
 use Rattle.radio_base.specs.Causes.{Rose}
 use Rattle.cmd_streams.specs.declared.status.Status.{Status}
 use Rattle.cmd_streams.specs.declared.status.Status.TheVariants.{Done, Usage, BadFile, ReadFault, WriteFault, TooLong, TooLate}
@@ -7,23 +7,23 @@ use Rattle.cmd_streams.specs.Reading.{ReadsFew, ReadsTooMuch, TellsTooMuch}
 use Rattle.cmd_streams.specs.StreamEnds.{StreamEnds}
 use Rattle.cmd_streams.specs.Streams.{Read, bytes_of}
 use Rattle.cmd_streams.specs.Told.{StreamsTold, Comes, ReadsBadFile, ReadsWell, TellsBadFile, TellsGoodFile, WritesWell, IsNoted}
-use Rattle.frame_lines.specs.declared.modulo.Modulo.{Modulo}
+use Rattle.radio_base.specs.declared.modulus.LinkModulus.{LinkModulus}
 use Rattle.frame_lines.specs.Hearing.{Listening, by_items}
 use Rattle.kiss_framing.specs.Stream.{items}
 use Rattle.network_file.specs.Networks.{network_of, word_for}
-use Rattle.net_replay.specs.Circuits.{AirsTooMany, IsInTime, IsLate}
+use Rattle.net_model.specs.Circuits.{AirsTooMany, IsInTime, IsLate}
 use Rattle.look_cmd.specs.Traced.{ReadsNetwork, TracesInTime, TracesLate, WritesFront}
 
 -- a listener that has heard nothing
-abbrev pub silent : Modulo → Listening
-silent m = record { modulo = m; extended = [] }
+abbrev pub silent : Option LinkModulus → Listening
+silent m = record { modulus = m; extended = [] }
 
 -- the text has the lines of what these reads brought
-abbrev pub HearsReads : Modulo → List Read → List ℕ → Type 0
+abbrev pub HearsReads : Option LinkModulus → List Read → List ℕ → Type 0
 HearsReads m reads text = text ≡ (by_items (silent m) (items (bytes_of reads))).1
 
 -- `listen`: at most 16,384 bytes are read at a time, and no clock is asked
-abbrev pub ListenEnds : Modulo → StreamsTold → StreamsTold → Status → Type 0
+abbrev pub ListenEnds : Option LinkModulus → StreamsTold → StreamsTold → Status → Type 0
 ListenEnds m before after status = StreamEnds 16384 (HearsReads m) None None before after status
 
 -- `trace`

@@ -1,16 +1,16 @@
-//! The commands, and the words that ask for them.
-ghost use Rattle.std.specs.Prelude.{◌≡◌, ◌≢◌, IfSome, IfNone, IsTrue, ◌↔◌, codes};
-ghost use Rattle.frame_lines.specs.declared.modulo.Modulo.{Modulo};
+//! The commands, and the words that ask for them. Called by `top`.
+ghost use Rattle.std.specs.Prelude.{◌≡◌, ◌≢◌, IfSome, IfNone, IsTrue, Option, ◌↔◌, codes};
+ghost use Rattle.radio_base.specs.declared.modulus.LinkModulus.{LinkModulus};
 ghost use Rattle.look_cmd.specs.declared.command.LookCommand.{LookCommand};
 ghost use Rattle.look_cmd.specs.Words.{AskFor, modulo_word};
 
-use frame_lines::Modulo;
+use radio_base::LinkModulus;
 
 /// What the program can do.
 #[derive(Clone, Copy, Debug, PartialEq, Eq)]
 pub enum LookCommand {
-    /// `listen modulo=auto`, `listen modulo=8`, `listen modulo=128`
-    Listen { modulo: Modulo },
+    /// `listen modulo=8`, `listen modulo=128`, or without a modulus `listen modulo=auto`
+    Listen { modulus: Option<LinkModulus> },
     /// `trace`
     Trace,
 }
@@ -22,8 +22,8 @@ pub fn command_of(words: &[String]) -> Option<LookCommand>
 {
     match words {
         [word] if is_trace(word.as_bytes()) => Some(LookCommand::Trace),
-        [word, modulo] if is_listen(word.as_bytes()) => match modulo_of(modulo.as_str()) {
-            Some(modulo) => Some(LookCommand::Listen { modulo }),
+        [word, modulus] if is_listen(word.as_bytes()) => match modulo_of(modulus.as_str()) {
+            Some(modulus) => Some(LookCommand::Listen { modulus }),
             None => None,
         },
         _ => None,
@@ -42,15 +42,15 @@ fn is_listen(word: &[u8]) -> bool
     word == b"listen".as_slice()
 }
 
-/// The modulus that the word gives.
-fn modulo_of(word: &str) -> Option<Modulo>
+/// The modulus that the word gives, or none where it leaves that to the stations.
+fn modulo_of(word: &str) -> Option<Option<LinkModulus>>
     ensures found { IfSome result (λ m. word.now ≡ modulo_word m) }
-    ensures none { IfNone result ((m : Modulo) → word.now ≢ modulo_word m) }
+    ensures none { IfNone result ((m : Option LinkModulus) → word.now ≢ modulo_word m) }
 {
     match word {
-        "modulo=auto" => Some(Modulo::Auto),
-        "modulo=8" => Some(Modulo::M8),
-        "modulo=128" => Some(Modulo::M128),
+        "modulo=auto" => Some(None),
+        "modulo=8" => Some(Some(LinkModulus::Modulo8)),
+        "modulo=128" => Some(Some(LinkModulus::Modulo128)),
         _ => None,
     }
 }

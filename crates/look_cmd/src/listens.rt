@@ -1,13 +1,13 @@
-//! The command `listen`.
+//! The command `listen`. Called by `top`.
 ghost use Rattle.std.specs.Prelude.{◌≡◌};
 ghost use Rattle.cmd_streams.specs.StatusNotes.{HasNote, IsSilent};
 ghost use Rattle.cmd_streams.specs.Told.{SaysTo, told_by};
 ghost use Rattle.look_cmd.specs.Look.{ListenEnds};
 
 use cmd_streams::{ItemTaker, Status, answer_items};
-use frame_lines::{Listener, Modulo};
+use frame_lines::Listener;
 use kiss_framing::KissItem;
-use radio_base::{NoMemory, Sink, Source, TextOut};
+use radio_base::{LinkModulus, NoMemory, Sink, Source, TextOut};
 use std::alloc::Global;
 
 /// The most bytes that are read at a time.
@@ -36,13 +36,13 @@ impl ItemTaker for Hearer {
 /// The status says how it ended, and where the input was refused the notes say why.
 pub fn listen_to_stream<S: Source, K: Sink, N: Sink>(
     alloc: Global,
-    modulo: Modulo,
+    modulus: Option<LinkModulus>,
     source: &mut S,
     sink: &mut K,
     notes: &mut N,
 ) -> Status
     // How it ends: the lines written are those of the stream, and each status has its reason.
-    ensures ends { ListenEnds modulo
+    ensures ends { ListenEnds modulus
         (told_by S.Source K.Sink N.Sink source.old sink.old notes.old)
         (told_by S.Source K.Sink N.Sink source.new sink.new notes.new) result }
 
@@ -51,6 +51,6 @@ pub fn listen_to_stream<S: Source, K: Sink, N: Sink>(
     ensures silent { IsSilent result → notes.new ≡ notes.old }
 {
     let mut buf = [0u8; READ_SIZE];
-    let listener = Listener::new(alloc, modulo);
+    let listener = Listener::new(alloc, modulus);
     answer_items(alloc, &mut buf, Hearer { listener }, source, sink, notes)
 }

@@ -1,8 +1,8 @@
-//! The top call.
-ghost use Rattle.std.specs.Prelude.{◌≡◌, ◌↔◌};
+//! The top call. Called by `wursthatch_look`.
+ghost use Rattle.std.specs.Prelude.{◌≡◌, ◌↔◌, Option};
 ghost use Rattle.cmd_streams.specs.StatusNotes.{HasNote, IsSilent};
 ghost use Rattle.cmd_streams.specs.Told.{SaysTo, told_by, UnlessItWrote};
-ghost use Rattle.frame_lines.specs.declared.modulo.Modulo.{Modulo};
+ghost use Rattle.radio_base.specs.declared.modulus.LinkModulus.{LinkModulus};
 ghost use Rattle.look_cmd.specs.declared.command.LookCommand.{LookCommand};
 ghost use Rattle.look_cmd.specs.Look.{ListenEnds, TraceEnds};
 ghost use Rattle.look_cmd.specs.Usage.{usage_note};
@@ -33,7 +33,7 @@ pub fn look<S: Source, K: Sink, N: Sink>(
     ensures unwritten { result ≡ Status.Usage → sink.new ≡ sink.old }
 
     // How each command ends.
-    ensures listen { (m : Modulo) → AskFor words.now (LookCommand.Listen m) → ListenEnds m
+    ensures listen { (m : Option LinkModulus) → AskFor words.now (LookCommand.Listen m) → ListenEnds m
         (told_by S.Source K.Sink N.Sink source.old sink.old notes.old)
         (told_by S.Source K.Sink N.Sink source.new sink.new notes.new) result }
 
@@ -50,8 +50,8 @@ pub fn look<S: Source, K: Sink, N: Sink>(
     ensures silent { IsSilent result → notes.new ≡ notes.old }
 {
     match command_of(words) {
-        Some(LookCommand::Listen { modulo }) => {
-            listen_to_stream(alloc, modulo, source, sink, notes)
+        Some(LookCommand::Listen { modulus }) => {
+            listen_to_stream(alloc, modulus, source, sink, notes)
         }
         Some(LookCommand::Trace) => trace_file(alloc, source, sink, notes),
         None => {

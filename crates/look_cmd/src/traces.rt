@@ -5,19 +5,20 @@ ghost use Rattle.cmd_streams.specs.StatusNotes.{HasNote, IsSilent};
 ghost use Rattle.cmd_streams.specs.Told.{SaysTo, output_by, told_by, UnlessItWrote};
 ghost use Rattle.network_file.specs.Networks.{network_of};
 ghost use Rattle.network_file.specs.Plan.{Plan};
-ghost use Rattle.net_replay.specs.World.{most_frames};
-ghost use Rattle.net_replay.specs.Causes.{IsCauseOf};
-ghost use Rattle.net_replay.specs.Circuits.{IsVerdictOn, IsNetwork};
-ghost use Rattle.net_replay.specs.Lines.{world};
-ghost use Rattle.net_replay.specs.Traces.{left_of};
+ghost use Rattle.net_model.specs.World.{most_frames};
+ghost use Rattle.net_verdict.specs.Causes.{IsCauseOf};
+ghost use Rattle.net_model.specs.Circuits.{IsVerdictOn, IsNetwork};
+ghost use Rattle.net_model.specs.Lines.{world};
+ghost use Rattle.net_world.specs.Traces.{left_of};
 ghost use Rattle.look_cmd.specs.Look.{TraceEnds};
 ghost use Rattle.look_cmd.specs.Traced.{IfTraceOf, IsTraced, NotTraced, TracedEnds};
 
+use circuit_verdict::Late;
 use cmd_streams::{Status, TOO_LONG, read_file, refuse_input, refuse_line, say, write_all};
-use net_replay::{
-    Late, LateCause, Network, NetworkRefusal, ReplayRefusal, Trace, What, late_cause, read_network,
-    replay, too_late,
-};
+use net_model::ReplayRefusal;
+use net_verdict::{LateCause, late_cause, too_late};
+use net_world::{Trace, replay};
+use network_file::{Network, NetworkRefusal, What, read_network};
 use radio_base::{NoMemory, Sink, Source, TextOut};
 use std::alloc::Global;
 use trace_lines::{TraceVerdict, trace_text};

@@ -4,6 +4,7 @@ use Rattle.std.specs.Prelude.{◌&&◌, ◌==◌, not, nat_eq, nat_lt, is_none, 
 use Rattle.std.specs.Cmp.Lexicographic.{pointwise}
 use Rattle.std.specs.Str.Lines.{lines}
 use Rattle.std.specs.List.{AllByRecursion}
+use Rattle.std.proofs.lemmas.Bool.{not-true}
 use Rattle.ax_address.specs.Callsign as calls
 use Rattle.ax_address.specs.Callsign.{ReadsCallTexts, Callsign}
 use Rattle.ax_address.specs.declared.call.CallRefusal.{CallRefusal}
@@ -84,19 +85,15 @@ declared_at : (ds : List Declaration) (word : List ℕ) (n : ℕ) → node_at ds
 unfolding node_at
 declared_at ds word = bound (λ n. has_node ds n ≡ true) (number_at 1 16 word) _ (λ n _. bound (λ n. has_node ds n ≡ true) (needs (has_node ds n) whats.Node) _ (λ u e. last (λ n. has_node ds n ≡ true) n (needed (has_node ds n) whats.Node u e)))
 
-negated : (b : Bool) → not b ≡ true → b ≡ false
-negated true e = absurd (cc e)
-negated false e = refl
-
 new_at : (ds : List Declaration) (word : List ℕ) (n : ℕ) → new_node_at ds word ≡ Ok n → has_node ds n ≡ false
 unfolding new_node_at
 new_at ds word = bound (λ n. has_node ds n ≡ false) (number_at 1 16 word) _ (λ n _. bound (λ n. has_node ds n ≡ false) (needs (not (has_node ds n)) whats.Twice) _ (λ u e.
-    last (λ n. has_node ds n ≡ false) n (negated (has_node ds n) (needed (not (has_node ds n)) whats.Twice u e))))
+    last (λ n. has_node ds n ≡ false) n (not-true (has_node ds n) (needed (not (has_node ds n)) whats.Twice u e))))
 
 new_call : (ds : List Declaration) (word : List ℕ) (c : Callsign) → new_call_at ds word ≡ Ok c → has_call ds c ≡ false
 unfolding new_call_at
 new_call ds word = bound (λ c. has_call ds c ≡ false) (call_at word) _ (λ c _. bound (λ c. has_call ds c ≡ false) (needs (not (has_call ds c)) whats.Twice) _ (λ u e.
-    last (λ c. has_call ds c ≡ false) c (negated (has_call ds c) (needed (not (has_call ds c)) whats.Twice u e))))
+    last (λ c. has_call ds c ≡ false) c (not-true (has_call ds c) (needed (not (has_call ds c)) whats.Twice u e))))
 
 -- a value is within its range
 value_ranged : (least most : ℕ) (word : List ℕ) (n : ℕ) → value_at least most word ≡ Ok n → (least ≤ n) × (n ≤ most)
@@ -119,7 +116,7 @@ set_fits plan (number ∷ key ∷ word ∷ []) l e =
       declared = declared_at plan.declared number n known;
       in_range = value_ranged (least_of k) (most_of k) word v range;
       new = needed (is_none (set_to plan.settings n k)) whats.Twice u new;
-      apart = negated (clashes plan.settings n k v) (needed (not (clashes plan.settings n k v)) whats.Value x apart);
+      apart = not-true (clashes plan.settings n k v) (needed (not (clashes plan.settings n k v)) whats.Value x apart);
     }))))))) l e
 set_fits plan other l e = absurd (cc e)
 

@@ -3,6 +3,7 @@
 use Rattle.std.proofs.Common.{◌≡◌, ◌∙◌, ℕ, refl, ap, subst, List, [], ◌∷◌, ◌++◌, arith, Bool, true, false, cond}
 use Rattle.std.specs.Prelude.{◌&&◌, ◌==◌, find, is_none, unwrap_or, Option, Some, None, Result, Ok, Err}
 use Rattle.std.specs.Option.{option_map}
+use Rattle.ax_address.proofs.SameNumbers.{nat_refl}
 use Rattle.network_file.specs.declared.plan.keys.Key.{Key}
 use Rattle.network_file.specs.declared.plan.keys.Key.TheVariants.{Mail, Prompt}
 use Rattle.network_file.specs.declared.what.What.{What}
@@ -73,14 +74,11 @@ swapped true false e = refl
 swapped false true e = refl
 swapped false false e = refl
 
-is_itself : (n : ℕ) → (n == n) ≡ true
-is_itself n = grind arith
-
 abbrev assigned : ℕ → Key → ℕ → Assignment
 assigned n k v = record { node = n; key = k; value = v }
 
 is_here : (n : ℕ) (k key : Key) (v : ℕ) (b : Bool) → same_key k key ≡ b → is_of n key (assigned n k v) ≡ b
-is_here n k key v b e = rw (is_itself n) e
+is_here n k key v b e = rw (nat_refl n) e
 
 -- at the node of the new setting
 apart_here : (xs : List Assignment) (n : ℕ) (k : Key) (v : ℕ) → is_none (set_to xs n k) ≡ true → clashes xs n k v ≡ false → AreApart xs

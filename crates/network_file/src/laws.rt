@@ -1,4 +1,4 @@
-//! What holds of every network that a file lays down.
+//! What holds of every network that a file lays down. Called by the laws of the replay.
 ghost use Rattle.network_file.specs.Laws.{CallsAreCalls, CallsDeclaredOnce, DeclaredOnce, NoMailAtPrompts, PairsArePairs, SettingsFit, SettingsInRange};
 
 /// Each node is declared once, and no two have one call. The version of a file stands before its settings, and each of them is one that

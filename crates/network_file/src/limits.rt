@@ -1,4 +1,4 @@
-//! How large a network may be, and how large the numbers of its lines.
+//! How large a network may be, and how large the numbers of its lines. Used by most files here, and by the replay.
 
 /// The most nodes of a network: their numbers are from 1 to this one.
 pub const MAX_NODES: usize = 16;

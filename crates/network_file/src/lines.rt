@@ -1,4 +1,4 @@
-//! What a line says: its kind is named by its first word.
+//! What a line says: its kind is named by its first word. Called by most files here.
 ghost use Rattle.std.specs.Prelude.{◌≡◌, IfOk};
 ghost use Rattle.network_file.specs.Lines as lines;
 ghost use Rattle.text_lines.specs.Lines.{texts, words_of};

@@ -1,4 +1,4 @@
-//! What a network file lays down, and why one is refused.
+//! What a network file lays down, and why one is refused. Called by most files here, and by the replay and `trace_lines`.
 ghost use Rattle.std.specs.Prelude.{◌≡◌, ◌≤◌, ◌++◌, ◌∷◌, ◌+◌, [], length, Ok, Err, IsTrue, ◌↔◌, OnOk, OnErr, IfOk, IfErr, MatchResult};
 ghost use Rattle.std.specs.Str.Lines.{lines};
 ghost use Rattle.network_file.specs.Networks as networks;

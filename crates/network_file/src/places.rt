@@ -1,4 +1,4 @@
-//! The words of a line, by the rules of their places.
+//! The words of a line, by the rules of their places. Called by most files here.
 ghost use Rattle.std.specs.Prelude.{◌≡◌, ◌≤◌, IfOk, MatchOption, None, Some, take};
 ghost use Rattle.network_file.specs.Places as places;
 ghost use Rattle.text_lines.specs.Lines.{texts};

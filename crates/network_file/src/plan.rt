@@ -1,4 +1,5 @@
-//! What a network file lays down: nodes, who hears whom, settings, ways over repeaters, and what happens.
+//! What a network file lays down: nodes, who hears whom, settings, ways over repeaters, and what happens. Filled by `network`, and read by
+//! `node_settings`, the replay and `trace_lines`.
 pub mod channels;
 pub mod declarations;
 pub mod heard_nodes;

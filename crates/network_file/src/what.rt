@@ -1,4 +1,4 @@
-//! Why lines of a network file are bad.
+//! Why lines of a network file are bad. Used by most files here, and by the replay.
 use std::fmt;
 
 /// Why a line of a network file is bad.

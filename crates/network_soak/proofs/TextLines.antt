@@ -10,6 +10,7 @@ use Rattle.std.proofs.lemmas.List.Folds.{list_all_at}
 use Rattle.std.proofs.lemmas.List.Splits.{length-slice_split}
 use Rattle.std.proofs.lemmas.Fmt.{digits_decimal}
 use Rattle.std.proofs.lemmas.Str.Parse.{IsNumeralModel, numerals_by_fold}
+use Rattle.std.proofs.lemmas.Bool.{and_parts}
 use Rattle.network_file.specs.declared.lines.Line.{Line}
 use Rattle.network_file.specs.Networks.{after_lines, with_line}
 use Rattle.network_file.specs.Plan.{Plan}
@@ -40,10 +41,6 @@ some_part P (y ∷ more) h all = all y more
 abbrev is_printed : ℕ → Bool
 is_printed b = nat_le 32 b && nat_le b 126
 
-and_both : (a b : Bool) → (a && b) ≡ true → (a ≡ true) × (b ≡ true)
-and_both true b h = (refl, h)
-and_both false b h = absurd (cc h)
-
 no_feed : (c : ℕ) → is_printed c ≡ true → (c == 10) ≡ false
 no_feed c h = grind (arith, nat_tests)
 
@@ -53,7 +50,7 @@ no_return c h = grind (arith, nat_tests)
 split_after : (l rest : List ℕ) → is_text l ≡ true → slice_split is_feed (l ++ 10 ∷ rest) ≡ l ∷ slice_split is_feed rest
 split_after [] rest h = refl
 split_after (c ∷ cs) rest h =
-    let both = and_both (is_printed c) (is_text cs) h in
+    let both = and_parts (is_printed c) (is_text cs) h in
     ap (λ ps. cond (c == 10) ([] ∷ ps) (onto_first c ps)) (split_after cs rest both.1) ∙ ap (λ b. cond b ([] ∷ (cs ∷ slice_split is_feed rest)) ((c ∷ cs) ∷ slice_split is_feed rest)) (no_feed c both.0)
 
 printed_by : (b : Bool) (l : List ℕ) (i : ℕ) → b ≡ is_printed (get_or l i 0) → i < length l → is_text l ≡ true → b ≡ true
@@ -109,7 +106,7 @@ digit_is c h = (grind (arith, nat_tests), grind (arith, nat_tests))
 digits_are : (t : List ℕ) → all_ascii_digits t ≡ true → IsWord t
 digits_are [] h = record { text = refl; one = refl }
 digits_are (c ∷ cs) h =
-    let both = and_both (nat_le 48 c && nat_le c 57) (all_ascii_digits cs) h in
+    let both = and_parts (nat_le 48 c && nat_le c 57) (all_ascii_digits cs) h in
     let digit = digit_is c both.0 in
     let rest = digits_are cs both.1 in
     record {

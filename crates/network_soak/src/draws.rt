@@ -1,4 +1,4 @@
-//! Numbers that one number leads to: a linear congruential generator modulo 2^64.
+//! Numbers that one number leads to: a linear congruential generator modulo 2^64. Called by `file`.
 ghost use Rattle.std.specs.Prelude.{◌≡◌, ◌<◌};
 ghost use Rattle.network_soak.specs.Files as draws;
 

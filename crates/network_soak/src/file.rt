@@ -1,4 +1,4 @@
-//! The network file of a number: six nodes in a ring, each with a circuit to the one opposite, and 300 drawn lines.
+//! The network file of a number: six nodes in a ring, each with a circuit to the one opposite, and 300 drawn lines. Called by the replay.
 ghost use Rattle.std.specs.Prelude.{◌≡◌, ◌++◌, flat_map, OnOk, IfOk};
 ghost use Rattle.network_soak.specs.Files as files;
 

@@ -1,4 +1,4 @@
-//! The lines of a soak's file.
+//! The lines of a soak's file. Called by `file`.
 ghost use Rattle.std.specs.Prelude.{◌≡◌, IfOk, string_bytes};
 ghost use Rattle.network_soak.specs.Files as files;
 ghost use Rattle.network_soak.specs.declared.lines.LineKind.TheVariants as kinds;

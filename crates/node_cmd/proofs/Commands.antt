@@ -1,19 +1,20 @@
 -- Words ask for one command at most: for one modulus, one seed, one life, one node, one gateway.
-use Rattle.std.proofs.Common.{◌≡◌, ◌∙◌, ◌⊎◌, ◌∷◌, [], ℕ, List, refl, sym, subst, ap, arith, get_or, inl, inr, String, Global}
+use Rattle.std.proofs.Common.{◌≡◌, ◌∙◌, ◌⊎◌, ◌∷◌, [], ℕ, List, refl, sym, subst, ap, get_or, inl, inr, String, Global}
 use Rattle.std.specs.Prelude.{Ok, codes, nat_eq, false}
-use Rattle.std.proofs.lemmas.Bool.Decides.{nat_tests}
 use Rattle.std.specs.Fmt.{decimal}
 use Rattle.std.proofs.lemmas.Fmt.{decimal_injective}
+use Rattle.std.proofs.lemmas.Bool.{eqb-false}
 use Rattle.network_file.specs.declared.plan.live.LiveNode.{LiveNode}
 use Rattle.tool_cmd.specs.declared.ip.gateway.Gateway.{Gateway}
 use Rattle.tool_cmd.specs.declared.lives.settings.LifeSettings.{LifeSettings}
 use Rattle.node_cmd.specs.declared.command.RunCommand.{RunCommand}
 use Rattle.node_cmd.specs.declared.command.RunCommand.TheVariants.{Replay, Frames, Soak, Life, Node, Ip}
-use Rattle.tool_cmd.specs.declared.frame_modulus.FrameModulus.{FrameModulus}
-use Rattle.tool_cmd.specs.declared.frame_modulus.FrameModulus.TheVariants as modulo
+use Rattle.radio_base.specs.declared.modulus.LinkModulus.{LinkModulus}
+use Rattle.radio_base.specs.declared.modulus.LinkModulus.TheVariants as modulo
 use Rattle.tool_cmd.specs.IpWords.{IsGateway}
 use Rattle.tool_cmd.specs.LifeWords.{AreSettings}
-use Rattle.tool_cmd.specs.Frames.{modulo_word, size_of}
+use Rattle.radio_base.specs.Modulus.{modulus_size}
+use Rattle.tool_cmd.specs.Frames.{modulo_word}
 use Rattle.tool_cmd.specs.Laws.{AreOfOneGateway, AreOfOneLife}
 use Rattle.tool_cmd.specs.Standing.{state_of}
 use Rattle.node_cmd.specs.Words.{Ask, AskFor, AskForLife, AskForStream, Declare, seed_word}
@@ -68,12 +69,9 @@ first_char word = get_or word 0 0
 abbrev pub mark : RunCommand → ℕ
 mark c = first_char (first_word c)
 
-differ : (m n : ℕ) → nat_eq m n ≡ false → m ≡ n → ⊥
-differ m n two e = grind (arith, nat_tests, two, e)
-
 -- words that ask for one command don't ask for one of another kind
 pub other : (words : List (String Global)) (c d : RunCommand) → nat_eq (mark c) (mark d) ≡ false → AskFor words c → AskFor words d → ⊥
-other words c d two a b = differ (mark c) (mark d) two (ap first_char (same_first words c d a b))
+other words c d two a b = eqb-false (mark c) (mark d) two (ap first_char (same_first words c d a b))
 
 -- nor for one that runs no network and no node
 pub runs_one : (words : List (String Global)) (c : RunCommand) → nat_eq (mark c) (first_char (codes "frames")) ≡ false → nat_eq (mark c) (first_char (codes "ip")) ≡ false → nat_eq (mark c) (first_char (codes "life")) ≡ false
@@ -82,11 +80,11 @@ runs_one words c frames ip life a (inl (inl s)) = other words c (Frames s.0) fra
 runs_one words c frames ip life a (inl (inr s)) = other words c (Ip s.0) ip a s.1
 runs_one words c frames ip life a (inr s) = other words c (Life s.0) life a s.1
 
-same_size : (m n : FrameModulus) → modulo_word m ≡ modulo_word n → size_of m ≡ size_of n
-same_size modulo.M8 modulo.M8 e = refl
-same_size modulo.M8 modulo.M128 e = absurd (cc e)
-same_size modulo.M128 modulo.M8 e = absurd (cc e)
-same_size modulo.M128 modulo.M128 e = refl
+same_size : (m n : LinkModulus) → modulo_word m ≡ modulo_word n → modulus_size m ≡ modulus_size n
+same_size modulo.Modulo8 modulo.Modulo8 e = refl
+same_size modulo.Modulo8 modulo.Modulo128 e = absurd (cc e)
+same_size modulo.Modulo128 modulo.Modulo8 e = absurd (cc e)
+same_size modulo.Modulo128 modulo.Modulo128 e = refl
 
-pub one_modulus : (words : List (String Global)) (m n : FrameModulus) → AskFor words (Frames m) → AskFor words (Frames n) → size_of m ≡ size_of n
+pub one_modulus : (words : List (String Global)) (m n : LinkModulus) → AskFor words (Frames m) → AskFor words (Frames n) → modulus_size m ≡ modulus_size n
 one_modulus words m n a b = same_size m n (cc (sym a ∙ b))

@@ -7,7 +7,7 @@ use Rattle.network_soak.specs.Laws.{AreNetworks}
 use Rattle.node_cmd.specs.declared.outcomes.Printed.TheVariants.{Report, SoakLine}
 use Rattle.node_cmd.specs.declared.ran.Ran.{Ran}
 use Rattle.cmd_streams.specs.declared.status.Status.{Status}
-use Rattle.net_replay.specs.Circuits.{IsNetwork}
+use Rattle.net_model.specs.Circuits.{IsNetwork}
 use Rattle.node_cmd.specs.Outcomes.{NetworkEnds}
 use Rattle.cmd_streams.specs.Reading.{ReadsAll}
 use Rattle.node_cmd.specs.Run.{ReplayEnds, SoakEnds}

@@ -3,7 +3,7 @@ use Rattle.std.proofs.Common.{◌≡◌, ◌∙◌, ◌++◌, ℕ, List, [], ◌
 use Rattle.std.specs.Prelude.{Some, None, slice_get}
 use Rattle.link_table.specs.declared.written.Written.{Written}
 use Rattle.node_core.specs.Fetching.{FetchesAllFrames, FramesInOrder, fetch_frames, without_entries, without_frames}
-use Rattle.node_turns.specs.States.{Entry, NodeState, State, fetch_entry, fetch_frame, fetch_own, frames}
+use Rattle.node_model.specs.States.{Entry, NodeState, State, fetch_entry, fetch_frame, fetch_own, frames}
 use Rattle.node_core.specs.Inputs.{after_bytes}
 use Rattle.node_cmd.specs.Live.{IsKept, NodeAtRead, StaysWithin, after_read, after_reads, answer_to, answer_to_reads, fetched, kiss_of, kiss_of_frame}
 use Rattle.node_core.specs.Standing.{Kept}

@@ -9,7 +9,7 @@ use Rattle.node_core.specs.Bounds.{IsWithin}
 use Rattle.node_core.specs.Fetching.{without_entries, without_frames}
 use Rattle.node_core.specs.Inputs.{after_bytes, after_tick}
 use Rattle.node_core.specs.Standing.{Kept, NodeStands}
-use Rattle.node_turns.specs.States.{NodeState, frames}
+use Rattle.node_model.specs.States.{NodeState, frames}
 use Rattle.node_cmd.specs.declared.ran.Ran.{Ran}
 use Rattle.node_cmd.specs.declared.ran.Ran.TheVariants.{Served}
 use Rattle.cmd_streams.specs.Streams.{Read}

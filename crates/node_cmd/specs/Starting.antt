@@ -8,7 +8,7 @@ use Rattle.network_file.specs.Keys.{set_to}
 use Rattle.node_settings.specs.Settings.{config_of, is_via_of, with_vias}
 use Rattle.node_core.specs.declared.config.NodeConfig.{NodeConfig}
 use Rattle.node_core.specs.Configs.{new_node}
-use Rattle.node_turns.specs.States.{NodeState}
+use Rattle.node_model.specs.States.{NodeState}
 
 -- its settings as they were declared
 abbrev pub said_config : LiveNode → Pair → NodeConfig

@@ -8,7 +8,7 @@ use Rattle.tool_cmd.specs.declared.ip.gateway.Gateway.{Gateway}
 use Rattle.tool_cmd.specs.declared.lives.settings.LifeSettings.{LifeSettings}
 use Rattle.node_cmd.specs.declared.command.RunCommand.{RunCommand}
 use Rattle.node_cmd.specs.declared.command.RunCommand.TheVariants.{Replay, Frames, Soak, Life, Node, Ip}
-use Rattle.tool_cmd.specs.declared.frame_modulus.FrameModulus.{FrameModulus}
+use Rattle.radio_base.specs.declared.modulus.LinkModulus.{LinkModulus}
 use Rattle.tool_cmd.specs.Frames.{modulo_word}
 use Rattle.tool_cmd.specs.IpWords.{IsGateway}
 use Rattle.tool_cmd.specs.LifeWords.{AreSettings}
@@ -46,4 +46,4 @@ AskForLife words = (s : LifeSettings) × AskFor words (Life s)
 
 -- for one that answers a stream as it comes
 abbrev pub AskForStream : List (String Global) → Type 0
-AskForStream words = ((m : FrameModulus) × AskFor words (Frames m)) ⊎ ((g : Gateway) × AskFor words (Ip g))
+AskForStream words = ((m : LinkModulus) × AskFor words (Frames m)) ⊎ ((g : Gateway) × AskFor words (Ip g))

@@ -1,12 +1,11 @@
-//! The commands, and the words that ask for them.
+//! The commands, and the words that ask for them. Called by `top`.
 ghost use Rattle.std.specs.Prelude.{◌≡◌, ◌≢◌, ◌<◌, ◌^◌, ℕ, IfSome, IfNone, IsTrue, ◌↔◌, codes};
 ghost use Rattle.node_cmd.specs.declared.command.RunCommand.{RunCommand};
 ghost use Rattle.node_cmd.specs.Words.{AskFor, seed_word};
 
 use network_file::{LiveNode, read_live_node};
-use tool_cmd::{
-    FrameModulus, Gateway, LifeSettings, gateway_of, modulo_of, number_behind, settings_of,
-};
+use radio_base::LinkModulus;
+use tool_cmd::{Gateway, LifeSettings, gateway_of, modulo_of, number_behind, settings_of};
 
 /// What the program can do.
 #[derive(Drop)]
@@ -14,7 +13,7 @@ pub enum RunCommand {
     /// `replay`
     Replay,
     /// `frames modulo=8`, `frames modulo=128`
-    Frames { modulo: FrameModulus },
+    Frames { modulus: LinkModulus },
     /// `soak seed=N`
     Soak { seed: u64 },
     /// `life`, and `modulo=8` or `modulo=128`, `srej=0` or `srej=1` and `delay=D` in any order
@@ -33,8 +32,8 @@ pub fn command_of(words: &[String]) -> Option<RunCommand>
 {
     match words {
         [word] if is_replay(word.as_bytes()) => Some(RunCommand::Replay),
-        [word, modulo] if is_frames(word.as_bytes()) => match modulo_of(modulo.as_str()) {
-            Some(modulo) => Some(RunCommand::Frames { modulo }),
+        [word, modulus] if is_frames(word.as_bytes()) => match modulo_of(modulus.as_str()) {
+            Some(modulus) => Some(RunCommand::Frames { modulus }),
             None => None,
         },
         [word, seed] if is_soak(word.as_bytes()) => match seed_of(seed.as_str()) {

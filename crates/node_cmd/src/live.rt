@@ -1,4 +1,4 @@
-//! The command `node`: a live node, which reads KISS bytes and writes its frames.
+//! The command `node`: a live node, which reads KISS bytes and writes its frames. Called by `top`.
 ghost use Rattle.std.specs.Prelude.{◌≡◌, ◌≢◌, ◌++◌, ◌≤◌, List, ℕ, false, length, OnOk};
 ghost use Rattle.node_core.specs.Bounds.{IsWithin};
 ghost use Rattle.node_core.specs.Fetching.{without_entries, without_frames};

@@ -2,9 +2,11 @@
 ghost use Rattle.std.specs.Prelude.{◌≡◌, ◌≢◌, ◌≤◌, ◌++◌, length, None, Ok, OnOk, IfOk, IfErr};
 ghost use Rattle.network_file.specs.Networks.{network_of};
 ghost use Rattle.network_file.specs.Plan.{Plan};
-ghost use Rattle.net_replay.specs.Promises.{IsSound, MailOnceThroughout, RetriesAreTold, SafeThroughout};
-ghost use Rattle.net_replay.specs.Traces.{IsTraceOf, left_of};
-ghost use Rattle.net_replay.specs.World.{World};
+ghost use Rattle.net_model.specs.SoundPlans.{IsSound};
+ghost use Rattle.net_laws.specs.Promises.{MailOnceThroughout, RetriesAreTold, SafeThroughout};
+ghost use Rattle.net_model.specs.Standing.{IsTraceOf};
+ghost use Rattle.net_world.specs.Traces.{left_of};
+ghost use Rattle.net_model.specs.World.{World};
 ghost use Rattle.node_cmd.specs.Outcomes.{IfReplayed, IsOutcome, NetworkEnds, NotReported, text_of};
 ghost use Rattle.cmd_streams.specs.Reading.{max_file};
 ghost use Rattle.cmd_streams.specs.StatusNotes.{HasNote, IsSilent};

@@ -1,4 +1,4 @@
-//! What a command leaves of what it ran.
+//! What a command leaves of what it ran. Used by most files here, and by `wursthatch`.
 use net_replay::Trace;
 use node_core::Node;
 

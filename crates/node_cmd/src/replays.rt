@@ -1,4 +1,4 @@
-//! The command `replay`.
+//! The command `replay`. Called by `top`.
 ghost use Rattle.std.specs.Prelude.{◌≡◌, ◌≢◌};
 ghost use Rattle.cmd_streams.specs.Told.{SaysTo, told_by, UnlessItWrote};
 ghost use Rattle.cmd_streams.specs.StatusNotes.{HasNote, IsSilent};

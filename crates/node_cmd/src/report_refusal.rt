@@ -1,4 +1,4 @@
-//! Why no report is written.
+//! Why no report is written. Used by `outcomes`.
 use net_replay::What;
 use radio_base::NoMemory;
 

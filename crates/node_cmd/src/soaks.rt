@@ -1,4 +1,4 @@
-//! The command `soak`.
+//! The command `soak`. Called by `top`.
 ghost use Rattle.std.specs.Prelude.{◌≡◌, ◌≢◌};
 ghost use Rattle.cmd_streams.specs.Told.{SaysTo, output_by, UnlessItWrote};
 ghost use Rattle.cmd_streams.specs.StatusNotes.{HasNote, IsSilent};

@@ -1,4 +1,4 @@
-//! A node that runs alone, as it starts.
+//! A node that runs alone, as it starts. Called by `live`.
 ghost use Rattle.std.specs.Prelude.{◌≡◌, IfOk};
 ghost use Rattle.circuit_table.specs.Pairs.{IsPair};
 ghost use Rattle.node_core.specs.Configs.{IsConfig};

@@ -1,13 +1,13 @@
-//! The top call.
+//! The top call. Called by `wursthatch`.
 ghost use Rattle.std.specs.Prelude.{ℕ, ◌≡◌, ◌≢◌, ◌↔◌, ◌⊎◌};
 ghost use Rattle.tool_cmd.specs.declared.ip.gateway.Gateway.{Gateway};
 ghost use Rattle.tool_cmd.specs.declared.lives.settings.LifeSettings.{LifeSettings};
 ghost use Rattle.node_cmd.specs.declared.ran.Ran.TheVariants as rans;
 ghost use Rattle.node_cmd.specs.declared.command.RunCommand.{RunCommand};
-ghost use Rattle.tool_cmd.specs.declared.frame_modulus.FrameModulus.{FrameModulus};
+ghost use Rattle.radio_base.specs.declared.modulus.LinkModulus.{LinkModulus};
 ghost use Rattle.network_file.specs.declared.plan.live.LiveNode.{LiveNode};
 ghost use Rattle.node_cmd.specs.Words.{AskFor, AskForLife, AskForNode, AskForStream};
-ghost use Rattle.tool_cmd.specs.Frames.{size_of};
+ghost use Rattle.radio_base.specs.Modulus.{modulus_size};
 ghost use Rattle.tool_cmd.specs.Standing.{state_of};
 ghost use Rattle.cmd_streams.specs.Told.{SaysTo, output_by, told_by, UnlessItWrote};
 ghost use Rattle.cmd_streams.specs.StatusNotes.{HasNote, IsSilent};
@@ -53,7 +53,7 @@ pub fn run<S: Source, K: Sink, N: Sink, C: Clock>(
         (told_by S.Source K.Sink N.Sink source.old sink.old notes.old)
         (told_by S.Source K.Sink N.Sink source.new sink.new notes.new)
         ran.new result }
-    ensures frames { (m : FrameModulus) → AskFor words.now (RunCommand.Frames m) → FramesEnd (size_of m)
+    ensures frames { (m : LinkModulus) → AskFor words.now (RunCommand.Frames m) → FramesEnd (modulus_size m)
         (told_by S.Source K.Sink N.Sink source.old sink.old notes.old)
         (told_by S.Source K.Sink N.Sink source.new sink.new notes.new) result }
     ensures soak { (seed : ℕ) → AskFor words.now (RunCommand.Soak seed) → SoakEnds seed
@@ -92,7 +92,9 @@ pub fn run<S: Source, K: Sink, N: Sink, C: Clock>(
     tool_cmd::laws::words_ask_for_one();
     match command_of(words) {
         Some(RunCommand::Replay) => replay_file(alloc, source, sink, notes, ran),
-        Some(RunCommand::Frames { modulo }) => frames_of_stream(alloc, modulo, source, sink, notes),
+        Some(RunCommand::Frames { modulus }) => frames_of_stream(
+            alloc, modulus, source, sink, notes,
+        ),
         Some(RunCommand::Node { declared }) => {
             run_node(alloc, &declared, source, sink, notes, clock, ran)
         }

@@ -1,4 +1,4 @@
-//! What is said where the words are no command's.
+//! What is said where the words are no command's. Used by `top`.
 
 /// All commands with their words.
 pub const USAGE: &str =

@@ -12,11 +12,11 @@ use Rattle.route_table.specs.Held.{StandsFor}
 use Rattle.route_table.specs.Log.{Item}
 use Rattle.route_table.specs.Table as routes
 use Rattle.node_core.specs.declared.station.Station.{Station}
-use Rattle.node_turns.specs.Bridging.{prompt_of}
-use Rattle.node_turns.specs.Pumping.{pump}
+use Rattle.node_model.specs.Bridging.{prompt_of}
+use Rattle.node_model.specs.Pumping.{pump}
 use Rattle.node_core.specs.Going.{HoldsTold}
 use Rattle.node_core.specs.Standing.{Holds}
-use Rattle.node_turns.specs.States.{Settings, State, next_hop}
+use Rattle.node_model.specs.States.{Settings, State, next_hop}
 use Rattle.node_core.proofs.Coming.{pumped_came}
 use Rattle.node_core.proofs.Using.{resting}
 

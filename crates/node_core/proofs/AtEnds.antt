@@ -12,7 +12,7 @@ use Rattle.node_core.specs.declared.acts.UserAct as code
 use Rattle.node_core.specs.declared.acts.UserAct.TheVariants as codes
 use Rattle.node_core.specs.declared.station.Station.{Station}
 use Rattle.node_core.specs.Going.{Answers}
-use Rattle.node_turns.specs.States.{State}
+use Rattle.node_model.specs.States.{State}
 
 abbrev pub AtEnd : code.UserAct → ℕ → Type 0
 AtEnd act id = ((m : Bor (List ℕ)) × (act ≡ codes.Write id m)) ⊎ ((act ≡ codes.Take id) ⊎ (act ≡ codes.Close id))

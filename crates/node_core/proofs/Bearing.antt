@@ -5,8 +5,10 @@ use Rattle.std.specs.Cmp.Lexicographic.{pointwise}
 use Rattle.std.specs.List.{AllByRecursion}
 use Rattle.std.proofs.lemmas.Bool.Decides.{nat_tests}
 use Rattle.std.proofs.lemmas.Cmp.{nat_list_eq_equiv}
+use Rattle.std.proofs.lemmas.Bool.{or_right, and_from, or_left}
 use Rattle.radio_base.specs.declared.payload.Payload.{Payload}
 use Rattle.ax_address.specs.Callsign.{Callsign, same_call}
+use Rattle.ax_address.proofs.SameCalls.{call_refl}
 use Rattle.ax_frame.specs.Controls.{IsLinkModulus}
 use Rattle.ax_frame.specs.Frames.{Frame, Spells, SpelledIsRead, read_at}
 use Rattle.ax_frame.specs.declared.frame.FrameRefusal.{FrameRefusal}
@@ -15,18 +17,8 @@ use Rattle.link_table.specs.Laws.{FrameHolds}
 use Rattle.node_core.specs.Broadcasts.{has_netrom_pid, is_broadcast}
 use Rattle.node_core.specs.Carried.{Borne, IsAloft, IsCarried, Offered, borne_by, borne_in, borne_of, is_aloft, is_borne}
 use Rattle.node_core.proofs.Spelling.{any_modulus, own_size}
-use Rattle.node_core.proofs.Tracing.{and_left, and_of, and_right, or_first, or_second, same_list}
 
 -- ---- calls
-
-pub call_itself : (c : Callsign) → same_call c c ≡ true
-call_itself c = and_of (pointwise nat_eq c.letters c.letters) (nat_eq c.ssid c.ssid) (nat_list_eq_equiv.refl c.letters) (grind (arith, nat_tests))
-
-pub same_is : (a b : Callsign) → same_call a b ≡ true → a ≡ b
-same_is a b e =
-    let letters : a.letters ≡ b.letters = same_list a.letters b.letters (and_left (pointwise nat_eq a.letters b.letters) (nat_eq a.ssid b.ssid) e) in
-    let ssid : a.ssid ≡ b.ssid = (let f = and_right (pointwise nat_eq a.letters b.letters) (nat_eq a.ssid b.ssid) e in grind (arith, nat_tests, f)) in
-    ap (λ ls. record a { letters = ls }) letters ∙ ap (λ k. record b { ssid = k }) ssid
 
 -- ---- a frame
 
@@ -55,8 +47,8 @@ module _ (size : ℕ) (offers : Callsign → Payload → Bool) (octets : List �
   -- it is carried there
   there : (p : Payload) → f.info ≡ p.info.items → is_borne (alone ∷ []) f.head.dest.call p.info.items ≡ true
   there p i =
-      or_first (same_call f.head.dest.call f.head.dest.call && pointwise nat_eq f.info p.info.items) false
-      (and_of (same_call f.head.dest.call f.head.dest.call) (pointwise nat_eq f.info p.info.items) (call_itself f.head.dest.call)
+      or_left (same_call f.head.dest.call f.head.dest.call && pointwise nat_eq f.info p.info.items) false
+      (and_from (same_call f.head.dest.call f.head.dest.call) (pointwise nat_eq f.info p.info.items) (call_refl f.head.dest.call)
       (ap (pointwise nat_eq f.info) (sym i) ∙ nat_list_eq_equiv.refl f.info))
 
   frame_by : (b : Bool) → is_broadcast f ≡ b → (g : Bool) → has_netrom_pid f.pid ≡ g
@@ -67,11 +59,11 @@ module _ (size : ℕ) (offers : Callsign → Payload → Bool) (octets : List �
       let p : Payload = record { pid = netrom; info = record { items = f.info } } in
       let one : offers f.head.dest.call p ≡ true = hold.payload p (pid_is f.pid h) refl in (
         (one, tt),
-        with_fit (alone ∷ []) (inr (record { payload = λ q i j. or_second (not (q.pid == netrom)) (is_borne (alone ∷ []) f.head.dest.call q.info.items) (there q j); size = hold.size })),
+        with_fit (alone ∷ []) (inr (record { payload = λ q i j. or_right (not (q.pid == netrom)) (is_borne (alone ∷ []) f.head.dest.call q.info.items) (there q j); size = hold.size })),
       )
   frame_by false e false h =
       let hold = holds x.fit e in
-      (tt, with_fit [] (inr (record { payload = λ q i j. or_first (not (q.pid == netrom)) false (other_pid f.pid q.pid h i); size = hold.size })))
+      (tt, with_fit [] (inr (record { payload = λ q i j. or_left (not (q.pid == netrom)) false (other_pid f.pid q.pid h i); size = hold.size })))
 
   frame_bears : AllByRecursion (Offered offers) (borne_by f) × IsAloft size (borne_by f) octets
   frame_bears = frame_by (is_broadcast f) refl (has_netrom_pid f.pid) refl

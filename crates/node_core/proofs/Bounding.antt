@@ -16,7 +16,7 @@ use Rattle.node_core.specs.Bounds.{IsWithin, pairs_of}
 use Rattle.node_core.specs.Bridged.{UsersAreFew}
 use Rattle.node_core.specs.Standing.{Kept}
 use Rattle.node_core.specs.Sound.{IsSound}
-use Rattle.node_turns.specs.States.{NodeState}
+use Rattle.node_model.specs.States.{NodeState}
 use Rattle.node_core.proofs.Serving.{same_number}
 
 -- ---- as many links and ends as the state has

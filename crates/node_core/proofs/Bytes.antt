@@ -9,7 +9,7 @@ use Rattle.link_table.specs.Frames.{plain_text, segmented}
 use Rattle.link_table.specs.Table.{Linked, Table, link_with}
 use Rattle.link_table.specs.Texts as texts
 use Rattle.link_table.specs.Works.{is_text, text_by}
-use Rattle.node_turns.specs.Links as links
+use Rattle.node_model.specs.Links as links
 
 some_bytes : (a : Answer) → text_by (whole_of a) ≡ true → 1 ≤ length (texts.message_of a)
 some_bytes (Whole pid message) e = by (nat_le 1 (length message)) refl (pid == plain_text) e

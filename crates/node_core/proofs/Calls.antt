@@ -19,13 +19,13 @@ use Rattle.link_table.specs.Calls.{collect, tell_lost}
 use Rattle.link_table.specs.Standing.{AllAnswer, after_call as call_done, after_calls}
 use Rattle.link_table.specs.Kept.{OffersLeave, TakesLower}
 use Rattle.link_table.specs.Table.{Table}
-use Rattle.node_turns.specs.Links as circuits
-use Rattle.node_turns.specs.Links.{offer, offer_answer}
-use Rattle.node_turns.specs.Pumping.{ask, ask_for, at_router, pump, take_turn, tell_one, told_entries, with_turned}
+use Rattle.node_model.specs.Links as circuits
+use Rattle.node_model.specs.Links.{offer, offer_answer}
+use Rattle.node_model.specs.Pumping.{ask, ask_for, at_router, pump, take_turn, tell_one, told_entries, with_turned}
 use Rattle.route_table.specs.Log.{Item}
-use Rattle.node_turns.specs.Sessions.{hear_if}
-use Rattle.node_turns.specs.States.{Entry, State, at_links, next_hop}
-use Rattle.node_turns.proofs.Resting.{asks_on, pumped_nothing, tells_on}
+use Rattle.node_model.specs.Sessions.{hear_if}
+use Rattle.node_model.specs.States.{Entry, State, at_links, next_hop}
+use Rattle.node_model.proofs.Resting.{asks_on, pumped_nothing, tells_on}
 
 -- the node after a call
 abbrev pub after_call : Pumped → State → State

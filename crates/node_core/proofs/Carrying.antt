@@ -3,6 +3,7 @@ use Rattle.std.proofs.Common.{◌≡◌, ◌∙◌, ℕ, refl, arith, sym, ap, s
 use Rattle.std.specs.Prelude.{Bool, true, false, ◌&&◌, ◌||◌, ◌==◌, ◌⊎◌, if◌then◌else◌, nat_eq, length, Option, Some, None, Result, Ok, Err}
 use Rattle.std.specs.List.{AllByRecursion}
 use Rattle.std.proofs.lemmas.Bool.Decides.{nat_tests}
+use Rattle.std.proofs.lemmas.Bool.{or_right}
 use Rattle.ax_address.specs.Callsign.{Callsign, same_call, ReadsCallTexts}
 use Rattle.ax_address.specs.declared.address.Address.{Address}
 use Rattle.ax_frame.specs.declared.head.Head.{Head}
@@ -10,11 +11,13 @@ use Rattle.ax_frame.specs.declared.frame.FrameRefusal.{FrameRefusal}
 use Rattle.ax_frame.specs.Frames.{Frame, HeadWithoutFault, SpelledHeadIsRead, SpelledIsRead, read_at, read_head_at}
 use Rattle.ax_address.specs.declared.alias.Alias.{Alias}
 use Rattle.ax_address.specs.declared.entry.Entry.{Entry as Said}
+use Rattle.ax_address.proofs.SameCalls.{same_call-true}
 use Rattle.circuit_table.specs.Pumps.{runs, Waiting, at_rest}
 use Rattle.circuit_table.specs.Sets.{SetState, CircuitTold}
 use Rattle.digi_path.specs.Paths.{Action, For_me, Repeat, Not_yet, Heard, action, behind, repeated}
 use Rattle.kiss_framing.specs.Stream as kiss
 use Rattle.l3_datagram.specs.Onward.{GoesOneHopOn}
+use Rattle.radio_base.specs.Modulus.{extended_if, modulus_size}
 use Rattle.link_table.specs.Calls as calls
 use Rattle.link_table.specs.Calls.{source}
 use Rattle.link_table.specs.Frames.{is_numbered}
@@ -29,15 +32,14 @@ use Rattle.route_table.specs.Table.{usable}
 use Rattle.node_core.specs.Acts as acts
 use Rattle.node_core.specs.Broadcasts.{is_broadcast}
 use Rattle.node_core.specs.Carried.{ActsCarry, BytesCarry, CarriedOn, CarriesTraced, IsAloft, IsOfNode, ItemAloft, LocksCall, NamesCall, Place, TicksCarry, brings_to, brings_traced, is_aloft, is_borne, is_of_node, offers_traced, sends_in}
-use Rattle.node_core.proofs.Bearing.{same_is}
 use Rattle.node_core.specs.Inputs.{after_input, after_item, after_items, moment, new_items}
 use Rattle.node_core.specs.Laws.{NothingLeftAfterInputs}
-use Rattle.node_turns.specs.Links as links
+use Rattle.node_model.specs.Links as links
 use Rattle.node_core.specs.Receiving as receiving
 use Rattle.node_core.specs.Broadcasts as rounds
 use Rattle.node_core.specs.Runs.{MadeFrom, circuits_told}
 use Rattle.node_core.specs.Standing.{IsTold}
-use Rattle.node_turns.specs.States.{Entry, Overflow, State, at_links, put, with_items}
+use Rattle.node_model.specs.States.{Entry, Overflow, State, at_links, put, with_items}
 use Rattle.node_core.specs.Acts.{UserAct}
 use Rattle.node_core.proofs.Inputs.{are_acts, are_up}
 use Rattle.node_core.proofs.Making.{runs_ok}
@@ -45,7 +47,6 @@ use Rattle.node_core.proofs.Moves.{logged, put_carries, walks}
 use Rattle.node_core.proofs.Repeating.{repeat_carried}
 use Rattle.node_core.proofs.Spelling.{IsFit, MayCome, head_of, may_come, same_head}
 use Rattle.node_core.proofs.Nodes.{items_told, told_after}
-use Rattle.node_core.proofs.Tracing.{or_second}
 use Rattle.node_core.proofs.Trails.{Goes, LinksCarry, LinksHold, Trail, carried_weaker, quiet, still, trail_then}
 use Rattle.node_core.proofs.Walking.{LocksBy, do_on, settled_on, tick_on}
 
@@ -91,12 +92,12 @@ module _ (here : Place) (law : CarriesWhatWasOffered) (weaker : CarriesByWeaker)
 
   -- ---- frames
 
-  width_is : (m k : ℕ) → (m ≡ 8) ⊎ (m ≡ 128) → nat_eq here.size m ≡ true → nat_eq here.size k ≡ true → (if k == 128 then 128 else 8) ≡ here.size
-  width_is m k (inl e) f g =
+  size_is : (m k : ℕ) → (m ≡ 8) ⊎ (m ≡ 128) → nat_eq here.size m ≡ true → nat_eq here.size k ≡ true → modulus_size (extended_if (k == 128)) ≡ here.size
+  size_is m k (inl e) f g =
       let is : here.size ≡ 8 = grind (arith, nat_tests, e, f) in
       let same : k ≡ 8 = grind (arith, nat_tests, is, g) in
       rw (same, is) refl
-  width_is m k (inr e) f g =
+  size_is m k (inr e) f g =
       let is : here.size ≡ 128 = grind (arith, nat_tests, e, f) in
       let same : k ≡ 128 = grind (arith, nat_tests, is, g) in
       rw (same, is) refl
@@ -124,14 +125,14 @@ module _ (here : Place) (law : CarriesWhatWasOffered) (weaker : CarriesByWeaker)
     unlinked f (inr b) same none other mine = fits f b other mine
 
     arrives_by : (o : Option Linked) (f : Frame) → link_with h.source.call n.links.links ≡ o
-        → read_at (if (elim o as (λ z. Bool) [ None ↦ false | Some l ↦ l.link.rules.size == 128 ]) then 128 else 8) octets ≡ Ok f → is_broadcast f ≡ false → IsMine f
+        → read_at (modulus_size (extended_if (elim o as (λ z. Bool) [ None ↦ false | Some l ↦ l.link.rules.size == 128 ]))) octets ≡ Ok f → is_broadcast f ≡ false → IsMine f
         → LinksHold here sent (calls.arrive f now n.links)
     arrives_by None f link r other mine =
         let may = m.unlinked f r in
         (unlinked f may.0 (same_head 8 octets h end f e r) link other mine, (spelled here.size).arrives n.links f now may.1 x.reaches)
     arrives_by (Some l) f link r other mine =
         let one : LinkHolds (offers_traced here sent) (brings_traced here) (nat_eq here.size) l = link_is (LinkHolds (offers_traced here sent) (brings_traced here) (nat_eq here.size)) h.source.call n.links.links l x.links.links link in
-        let is = width_is n.links.size l.link.rules.size x.links.modulus x.links.size one.size in
+        let is = size_is n.links.size l.link.rules.size x.links.modulus x.links.size one.size in
         let may = m.read f (subst (λ k. read_at k octets ≡ Ok f) is r) in
         (fits f may.0 other mine, (spelled here.size).arrives n.links f now may.1 x.reaches)
 
@@ -139,7 +140,7 @@ module _ (here : Place) (law : CarriesWhatWasOffered) (weaker : CarriesByWeaker)
     unfolding links.arrive links.is_128
     arrives f r other to_me =
         let same : f.head ≡ h = same_head (receiving.modulus_with h.source.call n) octets h end f e r in
-        let mine : IsMine f = ap (λ (z : Head). z.dest.call) same ∙ (same_is h.dest.call n.settings.call to_me ∙ x.call.0) in
+        let mine : IsMine f = ap (λ (z : Head). z.dest.call) same ∙ (same_call-true h.dest.call n.settings.call to_me ∙ x.call.0) in
         arrives_by (link_with h.source.call n.links.links) f refl r other mine
 
     entered : (es : List Entry) → circuits_told es ≡ [] → Trail here sent n (record n { entries = n.entries ++ es })
@@ -204,7 +205,7 @@ module _ (here : Place) (law : CarriesWhatWasOffered) (weaker : CarriesByWeaker)
         subst (λ (z : Head). IsAloft here.size here.borne (receiving.repeated_octets z.path.items octets)) same
         (repeat_carried here.size (is_aloft here.borne) n.settings.call octets path y (ap (λ (z : Head). action z.path.items z.dest.call n.settings.call) same ∙ q)) in
         carried_weaker (is_aloft here.borne) (offers_traced here sent) here.size (receiving.repeated_octets h.path.items octets)
-        (λ call p a. or_second (is_of_node here sent p.info.items) (is_borne here.borne call p.info.items) a) again
+        (λ call p a. or_right (is_of_node here sent p.info.items) (is_borne here.borne call p.info.items) a) again
 
     by_path : (a : Action) → action h.path.items h.dest.call n.settings.call ≡ a → Trail here sent n (receiving.take_by_path now octets h a n)
     by_path (Repeat path) q = record {

@@ -6,12 +6,12 @@ use Rattle.circuit_table.specs.Pumps.{OfEach, of_circuits, SetTold, Turn, Turned
 use Rattle.circuit_table.specs.Sets.{Act, CircuitTold}
 use Rattle.l3_datagram.specs.Datagrams.{Parcel}
 use Rattle.link_table.specs.Calls.{collect, tell_lost}
-use Rattle.node_turns.specs.Links as links
-use Rattle.node_turns.specs.Pumping as p
+use Rattle.node_model.specs.Links as links
+use Rattle.node_model.specs.Pumping as p
 use Rattle.node_core.specs.Runs.{circuits_told, write_in}
-use Rattle.node_turns.specs.States.{Entry, Of_set, Of_link, Overflow, State, at_links, at_set, next_hop}
+use Rattle.node_model.specs.States.{Entry, Of_set, Of_link, Overflow, State, at_links, at_set, next_hop}
 use Rattle.node_core.proofs.Inputs.{IsInput, Went, TurnWent, act_went, goes_on, hears_went, lost_went, retold, stays, tells_went}
-use Rattle.node_turns.proofs.Telling.{told_kept}
+use Rattle.node_model.proofs.Telling.{told_kept}
 
 -- From one state to another: the entries became more, and the circuits went on by inputs, of which the new entries tell, and which write this.
 pub record Came (written : List Act) (old new : State) : Type 0 where

@@ -2,9 +2,10 @@
 use Rattle.std.proofs.Common.{◌≡◌, ◌≤◌, ◌<◌, ◌+◌, ◌∙◌, inl, inr, ℕ, refl, sym, ap, subst, arith, List, [], ◌∷◌, length, slice_get}
 use Rattle.std.specs.Prelude.{Bool, true, false, not, ◌&&◌, ◌||◌, nat_eq, nat_lt, is_none, is_some, if◌then◌else◌, Option, Some, None}
 use Rattle.std.proofs.lemmas.Bool.Decides.{nat_tests}
-use Rattle.std.specs.Cmp.Lexicographic.{pointwise}
 use Rattle.std.specs.List.{AllByRecursion}
+use Rattle.std.proofs.lemmas.Bool.{or_right}
 use Rattle.ax_address.specs.Callsign.{Callsign, same_call}
+use Rattle.ax_address.proofs.SameCalls.{call_refl}
 use Rattle.circuit_l4.specs.Opening.{facts_of}
 use Rattle.circuit_l4.specs.declared.facts.EndFacts.{EndFacts}
 use Rattle.circuit_table.specs.CircuitSets.{facts_at, held_ids}
@@ -12,18 +13,18 @@ use Rattle.circuit_table.specs.Sets as sets
 use Rattle.circuit_table.specs.Sets.{Holder}
 use Rattle.link_table.specs.Ending.{has_link, tells_end}
 use Rattle.link_table.specs.Table.{Linked, link_with}
-use Rattle.node_turns.specs.declared.circuit.Circuit.{Circuit}
-use Rattle.node_turns.specs.declared.reply.Reply.{Reply}
-use Rattle.node_turns.specs.declared.stage.Stage.{Stage}
-use Rattle.node_turns.specs.declared.stage.Stage.TheVariants.{AtPrompt, Trying, Failed, Connected}
-use Rattle.node_turns.specs.declared.user.User.{User}
-use Rattle.node_turns.specs.declared.user.User.TheVariants.{AtEnd, AtLink}
+use Rattle.node_model.specs.declared.circuit.Circuit.{Circuit}
+use Rattle.node_model.specs.declared.reply.Reply.{Reply}
+use Rattle.node_model.specs.declared.stage.Stage.{Stage}
+use Rattle.node_model.specs.declared.stage.Stage.TheVariants.{AtPrompt, Trying, Failed, Connected}
+use Rattle.node_model.specs.declared.user.User.{User}
+use Rattle.node_model.specs.declared.user.User.TheVariants.{AtEnd, AtLink}
 use Rattle.node_core.specs.Laws.{NothingLeft}
-use Rattle.node_turns.specs.Serving as serving
-use Rattle.node_turns.specs.Sessions.{Session, circuit_of}
+use Rattle.node_model.specs.Serving as serving
+use Rattle.node_model.specs.Sessions.{Session, circuit_of}
 use Rattle.node_core.specs.Standing.{IsTold}
-use Rattle.node_turns.specs.States.{State}
-use Rattle.node_turns.specs.Users as users
+use Rattle.node_model.specs.States.{State}
+use Rattle.node_model.specs.Users as users
 use Rattle.node_core.specs.Waits.{WaitsForRoom, has_text, has_text_at}
 use Rattle.node_core.proofs.Holders.{is_away}
 use Rattle.node_core.proofs.Housing.{IsQuiet}
@@ -109,10 +110,6 @@ ended_none : (o : Option EndFacts) → is_none o ≡ true → users.ended_by o �
 ended_none None e = refl
 ended_none (Some f) e = absurd (cc e)
 
-or_true : (a b : Bool) → b ≡ true → (a || b) ≡ true
-or_true true b e = refl
-or_true false b e = e
-
 or_left : (a b : Bool) → (a || b) ≡ false → a ≡ false
 or_left true b e = absurd (cc e)
 or_left false b e = refl
@@ -161,7 +158,7 @@ lives n x w linked held = by x.user refl
     left_out peer e true f =
         let gone : users.is_gone x n ≡ true = rw (e, f) refl in
         let ended : users.has_ended x n ≡ true = rw (e, f) refl in
-        by_circuit gone (or_true x.bye (users.has_ended x n) ended) (circuit_of x.stage) refl
+        by_circuit gone (or_right x.bye (users.has_ended x n) ended) (circuit_of x.stage) refl
 
     end_out : (id : ℕ) → x.user ≡ AtEnd id → (b : Bool) → is_none (users.facts id n) ≡ b → Lives n x
     end_out id e false f =
@@ -172,7 +169,7 @@ lives n x w linked held = by x.user refl
     end_out id e true f =
         let gone : users.is_gone x n ≡ true = rw e f in
         let ended : users.has_ended x n ≡ true = rw e (ended_none (users.facts id n) f) in
-        by_circuit gone (or_true x.bye (users.has_ended x n) ended) (circuit_of x.stage) refl
+        by_circuit gone (or_right x.bye (users.has_ended x n) ended) (circuit_of x.stage) refl
 
     by : (u : User) → x.user ≡ u → Lives n x
     by (AtEnd id) e = end_out id e (is_none (users.facts id n)) refl
@@ -192,20 +189,13 @@ TellsNone n = (peer : Callsign) → tells_end peer n.links.pending.notices ≡ f
 abbrev HoldsAll : State → Type 0
 HoldsAll n = (id : ℕ) → 0 < total (asked_by id) n.sessions → is_away id n.set.set ≡ false
 
-same_letters : (xs : List ℕ) → pointwise nat_eq xs xs ≡ true
-same_letters [] = refl
-same_letters (x ∷ xs) = let e : nat_eq x x ≡ true = grind (arith, nat_tests) in rw e (same_letters xs)
-
-same_self : (c : Callsign) → same_call c c ≡ true
-same_self c = let e : nat_eq c.ssid c.ssid ≡ true = grind (arith, nat_tests) in rw (same_letters c.letters, e) refl
-
 all_live : (n : State) (ss : List Session) → AllByRecursion (WaitsForRoom n) ss → Every (IsAmong n.sessions) ss → TellsNone n → Housed n → HoldsAll n → Every (Lives n) ss
 all_live n [] w m none h k = tt
 all_live n (x ∷ ss) w m none h k = (lives n x w.0 linked held, all_live n ss w.1 m.1 none h k)
   where
     linked : (peer : Callsign) → x.user ≡ AtLink peer → x.left ≡ false → has_link peer n.links ≡ true
     linked peer e f =
-        let self = same_self peer in
+        let self = call_refl peer in
         let mine : at_link peer x ≡ 1 = rw (e, f, self) refl in
         let some : 0 < total (at_link peer) n.sessions = omega (arith, mine, m.0 (at_link peer)) in
         or_first (has_link peer n.links) (tells_end peer n.links.pending.notices) (none peer) (h.lodged peer some)

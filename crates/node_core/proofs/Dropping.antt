@@ -3,11 +3,11 @@ use Rattle.std.proofs.Common.{◌≡◌, ◌∙◌, ℕ, refl, ap, List, [], ◌
 use Rattle.std.specs.Prelude.{if◌then◌else◌, Bool, true, false, is_some, Some, None}
 use Rattle.ax_address.specs.Callsign.{Callsign}
 use Rattle.link_table.specs.Standing.{text_given}
-use Rattle.node_turns.specs.Links as links
-use Rattle.node_turns.specs.Serving.{drop_first, drop_text, dropped_peers}
-use Rattle.node_turns.specs.States.{State, at_links}
-use Rattle.node_turns.proofs.Settled as settled
-use Rattle.node_turns.specs.Turns.{Turn, idle}
+use Rattle.node_model.specs.Links as links
+use Rattle.node_model.specs.Serving.{drop_first, drop_text, dropped_peers}
+use Rattle.node_model.specs.States.{State, at_links}
+use Rattle.node_model.proofs.Settled as settled
+use Rattle.node_model.specs.Turns.{Turn, idle}
 
 abbrev pub dropped_at : ℕ → Callsign → State → Turn State
 dropped_at now peer n = record { did = links.has_text peer n.links; after = at_links (links.take_text peer now) n }

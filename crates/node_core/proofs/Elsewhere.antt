@@ -13,23 +13,23 @@ use Rattle.circuit_table.specs.declared.refusal.SetRefusal.{SetRefusal}
 use Rattle.node_prompt.specs.declared.action.Action.{Action as Asked}
 use Rattle.node_prompt.specs.declared.action.Action.TheVariants.{Say, Show, Connect, Bye, Nothing}
 use Rattle.node_core.specs.Deeds.{AllGoOn, BeginsAt, GoesOn, GoesOnAt, GoesOnIn, HasBegun, ListsNothing, ListsStayElsewhere, is_tried}
-use Rattle.node_turns.specs.declared.circuit.Circuit.{Circuit}
-use Rattle.node_turns.specs.declared.reply.Reply.{Reply}
-use Rattle.node_turns.specs.declared.stage.Stage.{Stage}
-use Rattle.node_turns.specs.declared.stage.Stage.TheVariants.{AtPrompt, Trying, Failed, Connected}
-use Rattle.node_turns.specs.declared.user.User.{User}
-use Rattle.node_turns.specs.declared.user.User.TheVariants.{AtEnd, AtLink}
-use Rattle.node_turns.specs.Asking as asking
-use Rattle.node_turns.specs.Bridging as bridging
-use Rattle.node_turns.specs.Links as links
-use Rattle.node_turns.specs.Pumping.{pump}
-use Rattle.node_turns.specs.Serving as serving
-use Rattle.node_turns.specs.Sessions as s
-use Rattle.node_turns.specs.Sessions.{Session}
-use Rattle.node_turns.specs.States.{State, at_links, at_set, next_hop}
-use Rattle.node_turns.specs.Turns.{Turn, done, idle, or_else}
-use Rattle.node_turns.specs.Users as users
-use Rattle.node_turns.specs.Users.{at_session, session_at}
+use Rattle.node_model.specs.declared.circuit.Circuit.{Circuit}
+use Rattle.node_model.specs.declared.reply.Reply.{Reply}
+use Rattle.node_model.specs.declared.stage.Stage.{Stage}
+use Rattle.node_model.specs.declared.stage.Stage.TheVariants.{AtPrompt, Trying, Failed, Connected}
+use Rattle.node_model.specs.declared.user.User.{User}
+use Rattle.node_model.specs.declared.user.User.TheVariants.{AtEnd, AtLink}
+use Rattle.node_model.specs.Asking as asking
+use Rattle.node_model.specs.Bridging as bridging
+use Rattle.node_model.specs.Links as links
+use Rattle.node_model.specs.Pumping.{pump}
+use Rattle.node_model.specs.Serving as serving
+use Rattle.node_model.specs.Sessions as s
+use Rattle.node_model.specs.Sessions.{Session}
+use Rattle.node_model.specs.States.{State, at_links, at_set, next_hop}
+use Rattle.node_model.specs.Turns.{Turn, done, idle, or_else}
+use Rattle.node_model.specs.Users as users
+use Rattle.node_model.specs.Users.{at_session, session_at}
 use Rattle.node_core.proofs.Fine.{placed_said, pumped_placed}
 use Rattle.node_core.proofs.Pumped.{pump_keeps}
 use Rattle.node_core.proofs.Soundness.{Every, Hears, Placed, changed_here, filter_every, greeted_every, heard_every, links_every}

@@ -7,11 +7,11 @@ use Rattle.ax_address.specs.Callsign.{Callsign}
 use Rattle.ax_link.specs.declared.notice.LinkNotice.{LinkNotice}
 use Rattle.link_table.specs.Calls as calls
 use Rattle.node_core.specs.declared.station.Station.{Station}
-use Rattle.node_turns.specs.Links.{all_noticed}
-use Rattle.node_turns.specs.Serving.{enter_notices, has_some}
+use Rattle.node_model.specs.Links.{all_noticed}
+use Rattle.node_model.specs.Serving.{enter_notices, has_some}
 use Rattle.node_core.specs.Standing.{Holds, entry_of}
-use Rattle.node_turns.specs.Sessions.{Session, hear_link, hear_links}
-use Rattle.node_turns.specs.States.{Entry, Of_link, State, at_links, at_sessions, enter}
+use Rattle.node_model.specs.Sessions.{Session, hear_link, hear_links}
+use Rattle.node_model.specs.States.{Entry, Of_link, State, at_links, at_sessions, enter}
 
 first_entry : (es : List Entry) (peer : Callsign) (note : LinkNotice) (xs : List (Callsign × LinkNotice)) → Some (peer, note) ≡ slice_get xs 0
     → es ++ map (λ (x : Callsign × LinkNotice). Of_link x.0 x.1) xs ≡ (es ++ Of_link peer note ∷ []) ++ map (λ (x : Callsign × LinkNotice). Of_link x.0 x.1) (drop 1 xs)

@@ -2,35 +2,36 @@
 use Rattle.std.proofs.Common.{◌≡◌, ◌≤◌, ◌+◌, ◌∙◌, ℕ, zero, suc, refl, sym, subst, arith, length, List, [], ◌∷◌}
 use Rattle.std.specs.Prelude.{Bool, true, false, not, ◌&&◌, nat_eq, nat_lt, filter, if◌then◌else◌, Option, Some, None}
 use Rattle.std.proofs.lemmas.Bool.Decides.{nat_tests}
+use Rattle.std.proofs.Math.Bool.{and-false}
 use Rattle.ax_address.specs.Callsign.{Callsign, ReadsCallTexts}
 use Rattle.circuit_table.specs.Pumps.{TellsLess}
 use Rattle.link_table.specs.Laws.{CarriesWhatWasOffered}
 use Rattle.link_table.specs.Kept.{OffersLeave, TakesLower}
-use Rattle.node_turns.specs.declared.circuit.Circuit.{Circuit}
-use Rattle.node_turns.specs.declared.reply.Reply.{Reply}
-use Rattle.node_turns.specs.declared.stage.Stage.{Stage}
-use Rattle.node_turns.specs.declared.stage.Stage.TheVariants.{AtPrompt, Trying, Failed, Connected}
-use Rattle.node_turns.specs.declared.user.User.TheVariants.{AtLink}
-use Rattle.node_turns.specs.Bridging as bridging
-use Rattle.node_turns.specs.Links as links
-use Rattle.node_turns.specs.Pumping.{at_router, pump}
-use Rattle.node_turns.specs.Serving as serving
-use Rattle.node_turns.specs.Serving.{is_at_end}
-use Rattle.node_turns.specs.Sessions as sessions
-use Rattle.node_turns.specs.Sessions.{Session, circuit_of}
-use Rattle.node_turns.specs.States.{State}
-use Rattle.node_turns.specs.Turns.{Turn, idle, or_else}
-use Rattle.node_turns.specs.Users as users
-use Rattle.node_turns.specs.Users.{at_session, session_at}
-use Rattle.node_turns.proofs.Falling as falling
-use Rattle.node_turns.proofs.Lowering as lowering
-use Rattle.node_turns.proofs.Resting.{pumped_dry as dried}
+use Rattle.node_model.specs.declared.circuit.Circuit.{Circuit}
+use Rattle.node_model.specs.declared.reply.Reply.{Reply}
+use Rattle.node_model.specs.declared.stage.Stage.{Stage}
+use Rattle.node_model.specs.declared.stage.Stage.TheVariants.{AtPrompt, Trying, Failed, Connected}
+use Rattle.node_model.specs.declared.user.User.TheVariants.{AtLink}
+use Rattle.node_model.specs.Bridging as bridging
+use Rattle.node_model.specs.Links as links
+use Rattle.node_model.specs.Pumping.{at_router, pump}
+use Rattle.node_model.specs.Serving as serving
+use Rattle.node_model.specs.Serving.{is_at_end}
+use Rattle.node_model.specs.Sessions as sessions
+use Rattle.node_model.specs.Sessions.{Session, circuit_of}
+use Rattle.node_model.specs.States.{State}
+use Rattle.node_model.specs.Turns.{Turn, idle, or_else}
+use Rattle.node_model.specs.Users as users
+use Rattle.node_model.specs.Users.{at_session, session_at}
+use Rattle.node_model.proofs.Falling as falling
+use Rattle.node_model.proofs.Lowering as lowering
+use Rattle.node_model.proofs.Resting.{pumped_dry as dried}
 use Rattle.node_core.proofs.Fine.{Fine, close_fine, pumped, session_fine}
 use Rattle.node_core.proofs.Given.{Given, IsDone, away, given_closed, given_new, gone_is}
 use Rattle.node_core.proofs.Soundness.{Every, Sound, changed_here, filter_every, push_every, sound_closed, sound_new}
 use Rattle.node_core.proofs.Owning.{Fewer, Less, at_least, few_itself, filter_less, greets, one, opens_by, owned_by, owns_fewer, then_fewer, asked_by}
 use Rattle.node_core.proofs.FineGiving.{shut_end, replied, given}
-use Rattle.node_core.proofs.FineLines.{and_no, taken_up}
+use Rattle.node_core.proofs.FineLines.{taken_up}
 use Rattle.node_core.proofs.Rooms.{none_untold}
 use Rattle.node_core.proofs.Served.{serve_on}
 use Rattle.node_core.proofs.Wrote.{Written, written_closed, written_new}
@@ -59,9 +60,9 @@ closed_less x = record { owned = λ id. by x.stage refl id; opens = λ id. opene
 
     opened : (stage : Stage) → x.stage ≡ stage → (id : ℕ) → opens_by id (bridging.note_closed x) ≤ opens_by id x
     opened AtPrompt e id = rw e (omega arith)
-    opened (Trying c) e id = let none = and_no (nat_eq c.id id) in rw (e, none) (omega arith)
-    opened (Failed c) e id = let none = and_no (nat_eq c.id id) in rw (e, none) (omega arith)
-    opened (Connected c) e id = let none = and_no (nat_eq c.id id) in rw (e, none) (omega arith)
+    opened (Trying c) e id = let none = and-false (nat_eq c.id id) in rw (e, none) (omega arith)
+    opened (Failed c) e id = let none = and-false (nat_eq c.id id) in rw (e, none) (omega arith)
+    opened (Connected c) e id = let none = and-false (nat_eq c.id id) in rw (e, none) (omega arith)
 
 its_circuit : (x : Session) (c : Circuit) → circuit_of x.stage ≡ Some c → circuit_of (bridging.note_closed x).stage ≡ Some (bridging.closed_circuit c)
 its_circuit x c e = by x.stage refl e

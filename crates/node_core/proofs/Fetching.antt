@@ -5,8 +5,8 @@ use Rattle.link_table.specs.Table.{written}
 use Rattle.link_table.specs.Frames.{Sent}
 use Rattle.link_table.specs.declared.written.Written.{Written}
 use Rattle.node_core.specs.Fetching.{FetchesAllEntries, FetchesAllFrames, FramesInOrder, fetch_entries, fetch_frames, without_entries, without_frames}
-use Rattle.node_turns.specs.Links.{sent_frames}
-use Rattle.node_turns.specs.States.{Entry, State, at_links, fetch_entry, fetch_own, frames}
+use Rattle.node_model.specs.Links.{sent_frames}
+use Rattle.node_model.specs.States.{Entry, State, at_links, fetch_entry, fetch_own, frames}
 use Rattle.node_core.proofs.Holding.{fetched_of_links}
 
 dropped_first : (fs : List Sent) → map written (drop 1 fs) ≡ drop 1 (map written fs)

@@ -2,6 +2,7 @@
 use Rattle.std.proofs.Common.{◌≡◌, ◌≤◌, ◌<◌, ◌+◌, ◌⊎◌, inl, inr, ℕ, zero, suc, refl, sym, subst, arith, drop, length, List, [], ◌∷◌, ◌++◌, slice_get}
 use Rattle.std.specs.Prelude.{Bool, true, false, not, ◌&&◌, ◌^◌, nat_eq, nat_le, nat_lt, if◌then◌else◌, Option, Some, None, Result, Ok, Err}
 use Rattle.std.proofs.lemmas.Bool.Decides.{nat_tests}
+use Rattle.std.proofs.lemmas.Bool.{and_parts}
 use Rattle.ax_address.specs.Callsign.{Callsign}
 use Rattle.circuit_l4.specs.Opening.{facts_of}
 use Rattle.circuit_l4.specs.State.{State as End, is_up, inbox, total as all_fragments, unacknowledged}
@@ -17,15 +18,15 @@ use Rattle.circuit_table.specs.Standing as answers
 use Rattle.circuit_table.specs.declared.refusal.SetRefusal.{SetRefusal}
 use Rattle.circuit_table.specs.declared.refusal.SetRefusal.TheVariants as set_refusal
 use Rattle.link_table.specs.declared.text_refusal.TextRefusal.{TextRefusal}
-use Rattle.node_turns.specs.declared.user.User.{User}
-use Rattle.node_turns.specs.declared.user.User.TheVariants.{AtEnd, AtLink}
-use Rattle.node_turns.specs.Links as links
-use Rattle.node_turns.specs.Pumping.{at_router, pump}
+use Rattle.node_model.specs.declared.user.User.{User}
+use Rattle.node_model.specs.declared.user.User.TheVariants.{AtEnd, AtLink}
+use Rattle.node_model.specs.Links as links
+use Rattle.node_model.specs.Pumping.{at_router, pump}
 use Rattle.node_core.specs.Runs.{MadeFrom}
-use Rattle.node_turns.specs.Sessions.{Session, hear_circuits}
-use Rattle.node_turns.specs.States.{State, at_set}
-use Rattle.node_turns.specs.Users as users
-use Rattle.node_turns.specs.Users.{Outcome, Taken, Exhausts, at_session, change_if, session_at}
+use Rattle.node_model.specs.Sessions.{Session, hear_circuits}
+use Rattle.node_model.specs.States.{State, at_set}
+use Rattle.node_model.specs.Users as users
+use Rattle.node_model.specs.Users.{Outcome, Taken, Exhausts, at_session, change_if, session_at}
 use Rattle.node_core.proofs.Given.{Given, given_heard, given_later}
 use Rattle.node_core.proofs.Holders.{Any, Keeps, Differs, closes_keep, comes_keeps, takes_keep, writes_keep}
 use Rattle.node_core.proofs.Soundness.{Every, Hears, Placed, Sound, changed_every, every_at, heard_every, heard_place, sound_hears, sound_new}
@@ -246,10 +247,6 @@ by_tests true false true long full ended a b c d e = absurd (cc c)
 by_tests true false false true full ended a b c d e = absurd (cc d)
 by_tests true false false false true ended a b c d e = absurd (cc e)
 
-and_both : (a b : Bool) → (a && b) ≡ true → (a ≡ true) × (b ≡ true)
-and_both true b e = (refl, e)
-and_both false b e = absurd (cc e)
-
 pub write_goes : (o : Option Holder) (message : List ℕ) → users.room_by (facts_at o) ≡ true → ((h : Holder) → o ≡ Some h → h.end.closing ≡ false) → IsMessage message
     → Goes (users.wrote_by (answers.write_answer o message))
 write_goes None message room unshut m = absurd (cc room)
@@ -260,7 +257,7 @@ write_goes (Some h) message room unshut m = by h.gone room
 
     up : (is_up s.phase && nat_le (unacknowledged s.sending) 57344) ≡ true → Goes (users.wrote_by (answers.by_write (ends.write_answer s message)))
     up r =
-        let both = and_both (is_up s.phase) (nat_le (unacknowledged s.sending) 57344) r in
+        let both = and_parts (is_up s.phase) (nat_le (unacknowledged s.sending) 57344) r in
         let queued : unacknowledged s.sending ≤ 57344 = grind (arith, nat_tests, both.1) in
         let some : nat_eq (length message) 0 ≡ false = grind (arith, nat_tests, m.0) in
         let short : nat_lt 8192 (length message) ≡ false = grind (arith, nat_tests, m.1) in

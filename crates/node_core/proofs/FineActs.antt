@@ -1,6 +1,7 @@
 -- A round, and what the user of a node does, keep it fine.
 use Rattle.std.proofs.Common.{◌≡◌, ℕ, refl, sym, ap, subst, arith, List, [], ◌∷◌, ◌++◌, append-nil}
 use Rattle.std.specs.Prelude.{Bool, true, false, ◌||◌, ◌&&◌, is_some, nat_lt, if◌then◌else◌, Option, Some, None, Result, Ok, Err}
+use Rattle.std.proofs.lemmas.Bool.{or_parts}
 use Rattle.arrayvec.specs.ArrayVec.{ArrayVec}
 use Rattle.ax_address.specs.declared.address.Address.{Address}
 use Rattle.ax_address.specs.Callsign.{Callsign, same_call}
@@ -26,15 +27,15 @@ use Rattle.node_core.specs.declared.acts.ActRefusal.TheVariants as refusal
 use Rattle.node_core.specs.Acts as acts
 use Rattle.node_core.specs.Acts.{Answered, UserAct}
 use Rattle.node_core.specs.Broadcasts.{round_frames}
-use Rattle.node_turns.specs.Links as circuits
+use Rattle.node_model.specs.Links as circuits
 use Rattle.node_core.specs.Receiving as receiving
 use Rattle.node_core.specs.Broadcasts as rounds
 use Rattle.node_core.specs.Runs.{IsUserAct}
-use Rattle.node_turns.specs.Serving.{is_at_end, is_circuit, is_served}
-use Rattle.node_turns.specs.Sessions.{Session, circuit_of}
+use Rattle.node_model.specs.Serving.{is_at_end, is_circuit, is_served}
+use Rattle.node_model.specs.Sessions.{Session, circuit_of}
 use Rattle.node_core.specs.Standing.{IsTold}
-use Rattle.node_turns.specs.States.{State, at_set, next_hop, put, with_items}
-use Rattle.node_turns.specs.Users.{facts}
+use Rattle.node_model.specs.States.{State, at_set, next_hop, put, with_items}
+use Rattle.node_model.specs.Users.{facts}
 use Rattle.node_core.proofs.Fine.{All, Fine, acted, closes_fine, takes_fine, writes_fine}
 use Rattle.node_core.proofs.Holders.{connects_keeps}
 use Rattle.node_core.proofs.Soundness.{Every}
@@ -77,15 +78,11 @@ wrote : (now id : ℕ) (message : List ℕ) (r : Result (Unit {0}) SetRefusal) (
 wrote now id message (Ok _) n none f = writes_fine now id message n none f
 wrote now id message (Err why) n none f = f
 
-or_none : (a b : Bool) → (a || b) ≡ false → (a ≡ false) × (b ≡ false)
-or_none true b e = absurd (cc e)
-or_none false b e = (refl, e)
-
 unserved : (id : ℕ) (ss : List Session) → is_served id ss ≡ false → total (owned_by id) ss ≡ 0
 unserved id [] e = refl
 unserved id (x ∷ ss) e =
-    let parts = or_none (is_at_end id x.user || is_circuit id (circuit_of x.stage)) (is_served id ss) e in
-    let both = or_none (is_at_end id x.user) (is_circuit id (circuit_of x.stage)) parts.0 in
+    let parts = or_parts (is_at_end id x.user || is_circuit id (circuit_of x.stage)) (is_served id ss) e in
+    let both = or_parts (is_at_end id x.user) (is_circuit id (circuit_of x.stage)) parts.0 in
     let none : owned_by id x ≡ 0 = rw (both.0, both.1) refl in
     let rest = unserved id ss parts.1 in
     omega (arith, none, rest)
@@ -93,8 +90,8 @@ unserved id (x ∷ ss) e =
 unserved_none : (id : ℕ) (ss : List Session) → is_served id ss ≡ false → Every (NotIts id) ss
 unserved_none id [] e = tt
 unserved_none id (x ∷ ss) e =
-    let parts = or_none (is_at_end id x.user || is_circuit id (circuit_of x.stage)) (is_served id ss) e in
-    let both = or_none (is_at_end id x.user) (is_circuit id (circuit_of x.stage)) parts.0 in
+    let parts = or_parts (is_at_end id x.user || is_circuit id (circuit_of x.stage)) (is_served id ss) e in
+    let both = or_parts (is_at_end id x.user) (is_circuit id (circuit_of x.stage)) parts.0 in
     (both.1, unserved_none id ss parts.1)
 
 -- nothing is written to an end that isn't held

@@ -2,6 +2,7 @@
 use Rattle.std.proofs.Common.{◌≡◌, ◌≤◌, ◌<◌, ◌+◌, ◌∙◌, inl, inr, ℕ, zero, suc, refl, sym, ap, subst, arith, List, [], ◌∷◌, ◌++◌, slice_get, slice_set}
 use Rattle.std.specs.Prelude.{Bool, true, false, not, ◌||◌, ◌&&◌, nat_eq, if◌then◌else◌, Option, Some, None, Result, Ok}
 use Rattle.std.proofs.lemmas.Bool.Decides.{nat_tests}
+use Rattle.std.proofs.lemmas.Bool.{or_parts, ne_eqb}
 use Rattle.ax_address.specs.Callsign.{Callsign}
 use Rattle.circuit_table.specs.CircuitSets.{facts_at}
 use Rattle.circuit_table.specs.Sets as sets
@@ -9,19 +10,19 @@ use Rattle.circuit_table.specs.Pumps.{Of}
 use Rattle.circuit_table.specs.Sets.{Holder, SetState, CircuitTold, end_of, set_step}
 use Rattle.circuit_table.specs.Standing as answers
 use Rattle.link_table.specs.declared.text_refusal.TextRefusal.{TextRefusal}
-use Rattle.node_turns.specs.declared.circuit.Circuit.{Circuit}
-use Rattle.node_turns.specs.declared.reply.Reply.{Reply}
-use Rattle.node_turns.specs.declared.user.User.{User}
-use Rattle.node_turns.specs.declared.user.User.TheVariants.{AtEnd, AtLink}
-use Rattle.node_turns.specs.Bridging as bridging
-use Rattle.node_turns.specs.Links as links
-use Rattle.node_turns.specs.Pumping.{at_router, pump}
-use Rattle.node_turns.specs.Serving.{is_at_end, is_circuit}
-use Rattle.node_turns.specs.Sessions.{Session, circuit_of, hear_circuits}
-use Rattle.node_turns.specs.States.{State, at_set}
-use Rattle.node_turns.specs.Turns.{done, idle}
-use Rattle.node_turns.specs.Users as users
-use Rattle.node_turns.specs.Users.{Outcome, at_session, change_if, session_at}
+use Rattle.node_model.specs.declared.circuit.Circuit.{Circuit}
+use Rattle.node_model.specs.declared.reply.Reply.{Reply}
+use Rattle.node_model.specs.declared.user.User.{User}
+use Rattle.node_model.specs.declared.user.User.TheVariants.{AtEnd, AtLink}
+use Rattle.node_model.specs.Bridging as bridging
+use Rattle.node_model.specs.Links as links
+use Rattle.node_model.specs.Pumping.{at_router, pump}
+use Rattle.node_model.specs.Serving.{is_at_end, is_circuit}
+use Rattle.node_model.specs.Sessions.{Session, circuit_of, hear_circuits}
+use Rattle.node_model.specs.States.{State, at_set}
+use Rattle.node_model.specs.Turns.{done, idle}
+use Rattle.node_model.specs.Users as users
+use Rattle.node_model.specs.Users.{Outcome, at_session, change_if, session_at}
 use Rattle.node_core.proofs.Fine.{Dry, Fine, Goes, fewer_at, pumped_dry, said, session_fine, took_message, write_goes}
 use Rattle.node_core.proofs.Ends.{end_in, every_in, number_of}
 use Rattle.node_core.proofs.Holders.{Any, AreOpen, others_stay, takes_keep}
@@ -68,13 +69,6 @@ both_changed f g n nth x e =
 
 -- ---- what is owned
 
-pub other_number : (a b : ℕ) → (a ≡ b → ⊥) → nat_eq a b ≡ false
-other_number a b differ = by (nat_eq a b) refl
-  where
-    by : (c : Bool) → nat_eq a b ≡ c → nat_eq a b ≡ false
-    by true e = absurd (differ (grind (arith, nat_tests, e)))
-    by false e = e
-
 -- the user's end isn't that of the circuit
 pub ends_differ : (u : ℕ) (n : State) (nth : ℕ) (x : Session) → Fine n → session_at nth n ≡ Some x → x.user ≡ AtEnd u → (c : Circuit) → circuit_of x.stage ≡ Some c → c.id ≡ u → ⊥
 ends_differ u n nth x f e g c h same =
@@ -119,10 +113,6 @@ replied (Some r) now nth n f =
 or_rest : (a b : Bool) → (a || b) ≡ true → a ≡ false → b ≡ true
 or_rest true b e f = absurd (cc f)
 or_rest false b e f = e
-
-or_parts : (a b : Bool) → (a || b) ≡ false → (a ≡ false) × (b ≡ false)
-or_parts true b e = absurd (cc e)
-or_parts false b e = (refl, e)
 
 pub not_and : (a b : Bool) → (not a && b) ≡ true → (a ≡ false) × (b ≡ true)
 not_and true b e = absurd (cc e)
@@ -272,7 +262,7 @@ given_from now nth n x c f router none e h gives = by (users.has_taken (answers.
     ends : (u : ℕ) → x.user ≡ AtEnd u → users.end_at u got ≡ users.end_at u n
     ends u g =
         ap (λ (set : SetState). end_of u set.ends) dry.set
-        ∙ others_stay n.set.set u c.id sets.Takes now (other_number c.id u (ends_differ u n nth x f e g c h))
+        ∙ others_stay n.set.set u c.id sets.Takes now (ne_eqb c.id u (ends_differ u n nth x f e g c h))
 
     room : users.has_taken (answers.take_answer (users.end_at c.id n)) ≡ true → (peer : Callsign) → users.link_has_room_beside peer c.id n ≡ true → 33 ≤ links.room peer got.links
     room t peer has = room_after now c.id n peer f.0.named router none t has

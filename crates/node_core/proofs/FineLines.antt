@@ -1,28 +1,29 @@
 -- Doing what the lines at the prompt ask for keeps a node fine.
 use Rattle.std.proofs.Common.{◌≡◌, ◌≤◌, ◌<◌, ◌+◌, ◌∙◌, ℕ, suc, refl, sym, ap, subst, arith, length, List, [], ◌∷◌, slice_get}
-use Rattle.std.specs.Prelude.{Bool, true, false, ◌||◌, ◌&&◌, nat_eq, if◌then◌else◌, Option, Some, None}
+use Rattle.std.specs.Prelude.{Bool, true, false, nat_eq, if◌then◌else◌, Option, Some, None}
 use Rattle.std.proofs.lemmas.Bool.Decides.{nat_tests}
+use Rattle.std.proofs.Math.Bool.{and-false}
 use Rattle.ax_address.specs.Callsign.{ReadsCallTexts}
 use Rattle.circuit_table.specs.Pumps.{connect_answer}
 use Rattle.node_prompt.specs.Replies as texts
 use Rattle.node_prompt.specs.declared.action.Action.{Action}
 use Rattle.node_prompt.specs.declared.action.Action.TheVariants as action
-use Rattle.node_turns.specs.declared.reply.Reply.{Reply}
-use Rattle.node_turns.specs.declared.stage.Stage.{Stage}
-use Rattle.node_turns.specs.declared.stage.Stage.TheVariants.{AtPrompt, Trying, Failed, Connected}
-use Rattle.node_turns.specs.declared.user.User.{User}
-use Rattle.node_turns.specs.declared.user.User.TheVariants.{AtEnd, AtLink}
-use Rattle.node_turns.specs.Asking as asking
-use Rattle.node_turns.specs.Bridging as bridging
-use Rattle.node_turns.specs.Pumping.{at_router}
-use Rattle.node_turns.specs.Serving as serving
-use Rattle.node_turns.specs.Serving.{is_at_end}
-use Rattle.node_turns.specs.Sessions.{Bridge, Session}
-use Rattle.node_turns.specs.States.{State, next_hop}
-use Rattle.node_turns.specs.Turns.{Turn, done, idle}
-use Rattle.node_turns.specs.Users as users
-use Rattle.node_turns.specs.Users.{at_session, session_at}
-use Rattle.node_turns.specs.Asking.{view}
+use Rattle.node_model.specs.declared.reply.Reply.{Reply}
+use Rattle.node_model.specs.declared.stage.Stage.{Stage}
+use Rattle.node_model.specs.declared.stage.Stage.TheVariants.{AtPrompt, Trying, Failed, Connected}
+use Rattle.node_model.specs.declared.user.User.{User}
+use Rattle.node_model.specs.declared.user.User.TheVariants.{AtEnd, AtLink}
+use Rattle.node_model.specs.Asking as asking
+use Rattle.node_model.specs.Bridging as bridging
+use Rattle.node_model.specs.Pumping.{at_router}
+use Rattle.node_model.specs.Serving as serving
+use Rattle.node_model.specs.Serving.{is_at_end}
+use Rattle.node_model.specs.Sessions.{Bridge, Session}
+use Rattle.node_model.specs.States.{State, next_hop}
+use Rattle.node_model.specs.Turns.{Turn, done, idle}
+use Rattle.node_model.specs.Users as users
+use Rattle.node_model.specs.Users.{at_session, session_at}
+use Rattle.node_model.specs.Asking.{view}
 use Rattle.node_core.proofs.Fine.{Fine, close_fine, placed_said, said, session_fine}
 use Rattle.node_core.proofs.Given.{Given, given_bye, given_cut, given_dropped}
 use Rattle.node_core.proofs.Served.{IsNamed, at_named}
@@ -54,14 +55,10 @@ at_prompt_fine nth step m y f e i stages replies shorter given bridges less =
     let here = ap (λ (rs : List Reply). length rs) (replies z) in
     sound_at_prompt (step z) (stages z ∙ at) (omega (arith, shorter z, s.rest)) (omega (arith, here, few))) (λ z k g. given z g) (λ z w. written_same m.set.set z (step z) (stages z) (ap (λ (b : Bridge). b.wrote) (bridges z)) (ap (λ (b : Bridge). b.got) (bridges z)) w) less f
 
-pub and_no : (a : Bool) → (a && false) ≡ false
-and_no true = refl
-and_no false = refl
-
 bye_less : (x : Session) → Less x (asking.leaves x)
 bye_less x = record {
   owned = λ id. omega arith;
-  opens = λ id. let none = and_no (is_at_end id x.user) in rw none (omega arith);
+  opens = λ id. let none = and-false (is_at_end id x.user) in rw none (omega arith);
   asked = λ id. omega arith;
 }
 
@@ -90,7 +87,7 @@ said_bye now nth text m y f e i = subst (λ (o : Option Session). Fine (users.cl
     shut : (u : ℕ) → z.user ≡ AtEnd u → total (opens_by u) left.sessions + mades u left.set.untold ≡ 0
     shut u g =
         let self : nat_eq u u ≡ true = grind (arith, nat_tests) in
-        let none : opens_by u z ≡ 0 = rw (p.holds.stage, and_no (is_at_end u z.user)) refl in
+        let none : opens_by u z ≡ 0 = rw (p.holds.stage, and-false (is_at_end u z.user)) refl in
         let some : 0 < owned_by u z = rw (g, self) (omega arith) in
         shut_end u left nth z fine at_left none some
 
@@ -153,10 +150,6 @@ first_none (r ∷ rs) e = absurd (cc e)
 -- no reply waits where it could be given
 none_given : (x : Session) (n : State) → bridging.next_reply (Some x) n ≡ None → users.can_give x n ≡ true → x.replies ≡ []
 none_given x n e g = first_none x.replies (sym (ap (λ (b : Bool). if b then slice_get x.replies 0 else None) g) ∙ e)
-
-or_true : (a : Bool) → (a || true) ≡ true
-or_true true = refl
-or_true false = refl
 
 lined : ReadsCallTexts → (now nth : ℕ) (n : State) (x : Session) → Fine n → TextsFit n.links → at_router n ≡ 0 → session_at nth n ≡ Some x → x.stage ≡ AtPrompt → bridging.next_reply (Some x) n ≡ None → Fine (asking.take_line now nth n).after
 lined reads now nth n x f fits router e g none =

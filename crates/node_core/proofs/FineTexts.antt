@@ -2,6 +2,7 @@
 use Rattle.std.proofs.Common.{◌≡◌, ◌≤◌, ◌<◌, ◌∙◌, ◌⊎◌, inl, inr, ℕ, refl, sym, ap, subst, arith, take, length, length-take, slice_get, List, []}
 use Rattle.std.specs.Prelude.{Bool, true, false, not, ◌&&◌, is_none, nat_eq, nat_lt, if◌then◌else◌, Option, Some, None, Result, Ok, Err}
 use Rattle.std.proofs.lemmas.Bool.Decides.{nat_tests}
+use Rattle.std.proofs.lemmas.Bool.{ne_eqb}
 use Rattle.ax_address.specs.Callsign.{Callsign}
 use Rattle.circuit_table.specs.CircuitSets.{facts_at}
 use Rattle.circuit_table.specs.Sets as sets
@@ -14,20 +15,20 @@ use Rattle.circuit_l4.specs.declared.notice.EndNotice.{EndNotice}
 use Rattle.circuit_l4.specs.declared.refusal.WriteRefusal.TheVariants as refusal
 use Rattle.circuit_table.specs.declared.refusal.SetRefusal.{SetRefusal}
 use Rattle.circuit_table.specs.declared.refusal.SetRefusal.TheVariants as set_refusal
-use Rattle.node_turns.specs.declared.stage.Stage.{Stage}
-use Rattle.node_turns.specs.declared.stage.Stage.TheVariants.{AtPrompt, Connected}
-use Rattle.node_turns.specs.declared.circuit.Circuit.{Circuit}
-use Rattle.node_turns.specs.declared.user.User.{User}
-use Rattle.node_turns.specs.declared.user.User.TheVariants.{AtEnd, AtLink}
-use Rattle.node_turns.specs.Bridging as bridging
-use Rattle.node_turns.specs.Links as links
-use Rattle.node_turns.specs.Pumping.{at_router, pump}
-use Rattle.node_turns.specs.Sessions as s
-use Rattle.node_turns.specs.Sessions.{Bridge, Session, circuit_of}
-use Rattle.node_turns.specs.States.{State, at_links, at_set}
-use Rattle.node_turns.specs.Turns.{Turn, done, idle}
-use Rattle.node_turns.specs.Users as users
-use Rattle.node_turns.specs.Users.{Outcome, Taken, Exhausts, Unheard, Refused, at_session, session_at}
+use Rattle.node_model.specs.declared.stage.Stage.{Stage}
+use Rattle.node_model.specs.declared.stage.Stage.TheVariants.{AtPrompt, Connected}
+use Rattle.node_model.specs.declared.circuit.Circuit.{Circuit}
+use Rattle.node_model.specs.declared.user.User.{User}
+use Rattle.node_model.specs.declared.user.User.TheVariants.{AtEnd, AtLink}
+use Rattle.node_model.specs.Bridging as bridging
+use Rattle.node_model.specs.Links as links
+use Rattle.node_model.specs.Pumping.{at_router, pump}
+use Rattle.node_model.specs.Sessions as s
+use Rattle.node_model.specs.Sessions.{Bridge, Session, circuit_of}
+use Rattle.node_model.specs.States.{State, at_links, at_set}
+use Rattle.node_model.specs.Turns.{Turn, done, idle}
+use Rattle.node_model.specs.Users as users
+use Rattle.node_model.specs.Users.{Outcome, Taken, Exhausts, Unheard, Refused, at_session, session_at}
 use Rattle.node_core.proofs.Bytes.{text_has_bytes}
 use Rattle.node_core.proofs.Fine.{Dry, Fine, fewer_at, pumped, pumped_dry, session_fine, takes_fine, took_message, write_goes}
 use Rattle.node_core.proofs.Holders.{Any, AreOpen, others_stay, takes_keep, writes_keep}
@@ -38,7 +39,7 @@ use Rattle.node_core.proofs.Wrote.{Written, its_written, written_same}
 use Rattle.node_core.proofs.Given.{Given, IsDone, Unclosed, away, given_later, given_text, given_wrote}
 use Rattle.node_core.proofs.Soundness.{Every, Hears, Same, Sound, changed_every, changed_here, every_at, same_hears, same_itself, sound_text, sound_wrote}
 use Rattle.node_core.proofs.Owning.{opens_by, owns_fewer, owns_input}
-use Rattle.node_core.proofs.FineGiving.{less_same, other_number, ends_differ, open_end, closing_of, messages_of, not_and}
+use Rattle.node_core.proofs.FineGiving.{less_same, ends_differ, open_end, closing_of, messages_of, not_and}
 use Rattle.node_core.proofs.Leaving.{calls_leaves}
 
 -- ---- texts of the user
@@ -119,7 +120,7 @@ module _ (P : Session → Type 0) (hears : Hears P) (texts_leave : (text : List 
                 (session_fine nth (users.with_text text) took (λ y k s. sound_text text y is.0 is.1 (subst (λ (w : Session). length w.rest ≤ 0) (same_session nth n x y e k) none) s)
                 (λ y k g. given_text took.set.set text y (still_open nth n x y f e k (λ d. took_held (users.end_at u n) t (subst (λ (w : User). away w x.left n.set.set ≡ true) at d.1))) g) (λ y w. written_same took.set.set y (users.with_text text y) refl refl refl w) (λ y. less_same y (users.with_text text y) refl refl refl) (takes_fine now u n (alone n.set.set n.set.untold n.sessions nth u x f.0 e at) f));
             some = λ d. (held.placed.x, held.placed.is, rw rest bytes, held.placed.holds);
-            ends = λ id differ. ap (λ (set : SetState). end_of id set.ends) dry.set ∙ others_stay n.set.set id u sets.Takes now (other_number u id (differ u at));
+            ends = λ id differ. ap (λ (set : SetState). end_of id set.ends) dry.set ∙ others_stay n.set.set id u sets.Takes now (ne_eqb u id (differ u at));
             unshut = λ id o. rw dry.set ((takes_keep n.set.set now u).unshut id tt o);
             others = λ id o.
                 pump_keeps (λ set ts ss. OthersNot id nth ss) (λ prompt set t ts ss a. others_hear id nth prompt t ss a) (λ set ts ss d now a. a) now begun

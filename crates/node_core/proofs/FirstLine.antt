@@ -7,7 +7,8 @@ use Rattle.std.proofs.lemmas.Bool.Decides.{nat_tests}
 use Rattle.std.proofs.lemmas.Option.{cond_some}
 use Rattle.std.proofs.lemmas.List.{drop_all}
 use Rattle.std.proofs.lemmas.List.Sums.{prefix_len-le-length}
-use Rattle.node_turns.specs.Asking.{first_line, behind_line, without_lf}
+use Rattle.text_lines.proofs.Cuts.{nowhere}
+use Rattle.node_model.specs.Asking.{first_line, behind_line, without_lf}
 
 at_step : (t : Bool) (b n : ℕ) (xs : List ℕ) → n ≡ length xs → cond (not t) (1 + n) 0 ≡ length (if t then [] else b ∷ xs)
 at_step true b n xs e = refl
@@ -43,10 +44,6 @@ whole_step false b xs bs behind e h = e (omega (arith, h))
 pub behind_whole : (text : List ℕ) → length (first_line text) ≡ length text → behind_line text ≡ []
 behind_whole [] h = refl
 behind_whole (b ∷ bs) h = whole_step (b == 13) b (first_line bs) bs (behind_line bs) (behind_whole bs) h
-
-nowhere : (b : Bool) (n : ℕ) → None ≡ cond b (Some n) None → b ≡ false
-nowhere true n e = cc
-nowhere false n e = refl
 
 -- as the place of the first CR is found
 pub ends_found : (text : List ℕ) (end : ℕ) → Some end ≡ position (λ b. b == 13) text → end ≡ length (first_line text)

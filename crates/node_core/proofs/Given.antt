@@ -2,25 +2,26 @@
 use Rattle.std.proofs.Common.{◌≡◌, ◌≤◌, ◌<◌, ◌∙◌, ◌⊎◌, inl, inr, ℕ, refl, sym, ap, subst, arith, List, [], ◌∷◌, ◌++◌}
 use Rattle.std.specs.Prelude.{Bool, true, false, ◌||◌, nat_eq, if◌then◌else◌, Some, None}
 use Rattle.std.proofs.lemmas.Bool.Decides.{nat_tests}
+use Rattle.std.proofs.lemmas.Bool.{cases_lt}
 use Rattle.ax_address.specs.Callsign.{Callsign}
 use Rattle.circuit_l4.specs.declared.notice.EndNotice.{EndNotice}
 use Rattle.circuit_l4.specs.declared.notice.EndNotice.TheVariants as end
 use Rattle.circuit_table.specs.Pumps.{Of}
 use Rattle.circuit_table.specs.Sets.{SetState, CircuitTold, Made, Sent, Heeded, Notice, Gone, Restarted, Lost}
-use Rattle.node_turns.specs.declared.circuit.Circuit.{Circuit}
-use Rattle.node_turns.specs.declared.stage.Stage.{Stage}
-use Rattle.node_turns.specs.declared.stage.Stage.TheVariants.{AtPrompt, Trying, Failed, Connected}
-use Rattle.node_turns.specs.declared.user.User.{User}
-use Rattle.node_turns.specs.declared.user.User.TheVariants.{AtEnd, AtLink}
-use Rattle.node_turns.specs.Asking as asking
-use Rattle.node_turns.specs.Bridging as bridging
-use Rattle.node_turns.specs.Sessions as s
-use Rattle.node_turns.specs.Sessions.{Bridge, Session, circuit_of}
-use Rattle.node_turns.specs.States.{State}
-use Rattle.node_turns.specs.Users as users
-use Rattle.node_turns.specs.Users.{Outcome, Taken, Exhausts, Unheard, Refused}
+use Rattle.node_model.specs.declared.circuit.Circuit.{Circuit}
+use Rattle.node_model.specs.declared.stage.Stage.{Stage}
+use Rattle.node_model.specs.declared.stage.Stage.TheVariants.{AtPrompt, Trying, Failed, Connected}
+use Rattle.node_model.specs.declared.user.User.{User}
+use Rattle.node_model.specs.declared.user.User.TheVariants.{AtEnd, AtLink}
+use Rattle.node_model.specs.Asking as asking
+use Rattle.node_model.specs.Bridging as bridging
+use Rattle.node_model.specs.Sessions as s
+use Rattle.node_model.specs.Sessions.{Bridge, Session, circuit_of}
+use Rattle.node_model.specs.States.{State}
+use Rattle.node_model.specs.Users as users
+use Rattle.node_model.specs.Users.{Outcome, Taken, Exhausts, Unheard, Refused}
 use Rattle.node_core.proofs.Holders.{is_away, is_ended}
-use Rattle.node_core.proofs.Owning.{Owns, below_or, made_by, one, staged}
+use Rattle.node_core.proofs.Owning.{Owns, made_by, one, staged}
 use Rattle.node_core.proofs.Soundness.{Every, Hears, map_every, push_every}
 
 -- ---- a session whose user is told nothing more
@@ -225,7 +226,7 @@ module _ (set : SetState) where
 
   -- an end that a request has made has a number that was given
   made_known : (ts : List CircuitTold) (ss : List Session) (id : ℕ) (t : CircuitTold) → Owns set (t ∷ ts) ss → 0 < made_by id t → id < set.number
-  made_known ts ss id t o some = by (below_or id set.number)
+  made_known ts ss id t o some = by (cases_lt id set.number)
     where
       by : (id < set.number) ⊎ (set.number ≤ id) → id < set.number
       by (inl low) = low

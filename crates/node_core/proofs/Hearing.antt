@@ -5,14 +5,14 @@ use Rattle.std.proofs.lemmas.List.{at_drop_all, at_drop_more, map-append}
 use Rattle.ax_address.specs.Callsign.{Callsign}
 use Rattle.ax_link.specs.declared.notice.LinkNotice.{LinkNotice}
 use Rattle.circuit_l4.specs.declared.notice.EndNotice.{EndNotice}
-use Rattle.node_turns.specs.declared.stage.Stage.{Stage}
-use Rattle.node_turns.specs.declared.stage.Stage.TheVariants.{AtPrompt, Trying, Failed, Connected}
-use Rattle.node_turns.specs.declared.user.User.{User}
-use Rattle.node_turns.specs.declared.user.User.TheVariants.{AtLink}
-use Rattle.node_turns.specs.Sessions.{Session, bare, ends_link, gone_at, greet, hear_gone, hear_link, hear_end, hear_notice, hear_tried, at_prompt, is_at_link, leave, leaves, new_session, notice_at}
-use Rattle.node_turns.specs.Serving.{greet_each, greet_link, is_served_link, serves_link}
+use Rattle.node_model.specs.declared.stage.Stage.{Stage}
+use Rattle.node_model.specs.declared.stage.Stage.TheVariants.{AtPrompt, Trying, Failed, Connected}
+use Rattle.node_model.specs.declared.user.User.{User}
+use Rattle.node_model.specs.declared.user.User.TheVariants.{AtLink}
+use Rattle.node_model.specs.Sessions.{Session, bare, ends_link, gone_at, greet, hear_gone, hear_link, hear_end, hear_notice, hear_tried, at_prompt, is_at_link, leave, leaves, new_session, notice_at}
+use Rattle.node_model.specs.Serving.{greet_each, greet_link, is_served_link, serves_link}
 use Rattle.node_core.specs.Standing.{Holds}
-use Rattle.node_turns.specs.States.{State, at_sessions}
+use Rattle.node_model.specs.States.{State, at_sessions}
 use Rattle.node_core.proofs.Holding.{with_sessions}
 use Rattle.node_core.specs.declared.station.Station.{Station}
 

@@ -22,7 +22,7 @@ use Rattle.l3_datagram.specs.declared.datagram.DatagramRefusal.{DatagramRefusal}
 use Rattle.l3_datagram.specs.declared.datagram.TheConstants.{HEAD_SIZE}
 use Rattle.l3_datagram.specs.Datagrams.{head_at}
 use Rattle.link_table.specs.Reaching.{IsCall}
-use Rattle.node_turns.specs.Users.{ended_by}
+use Rattle.node_model.specs.Users.{ended_by}
 use Rattle.node_core.proofs.Ends.{Every, In, Once, differ, end_before, end_here, end_in, every_in, is_end, number_of, open_in, other_end, push_in, push_once, put_in, put_once, weaker}
 use Rattle.node_core.proofs.Growing as grown
 use Rattle.node_core.proofs.Growing.{Leaves}

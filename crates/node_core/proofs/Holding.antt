@@ -22,11 +22,11 @@ use Rattle.route_table.specs.Table.{usable}
 use Rattle.node_core.specs.declared.entry.NodeEntry.{NodeEntry}
 use Rattle.node_core.specs.declared.station.Station.{Station}
 use Rattle.node_core.specs.Receiving.{has_room, live_with, quality_to, take_in}
-use Rattle.node_turns.specs.Sessions.{Session, bare}
+use Rattle.node_model.specs.Sessions.{Session, bare}
 use Rattle.node_core.specs.Standing.{Holds, IsTold, entry_of}
 use Rattle.node_core.specs.Broadcasts.{put_all}
-use Rattle.node_turns.specs.States.{Overflow, State, at_links, at_set, enter, fetch_frame, fetch_own, put, with_items}
-use Rattle.node_turns.specs.Links.{all_fetched, sent_frames}
+use Rattle.node_model.specs.States.{Overflow, State, at_links, at_set, enter, fetch_frame, fetch_own, put, with_items}
+use Rattle.node_model.specs.Links.{all_fetched, sent_frames}
 
 -- ---- the links alone
 

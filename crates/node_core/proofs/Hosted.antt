@@ -11,7 +11,7 @@ use Rattle.l3_datagram.specs.Routers.{Routing}
 use Rattle.node_core.specs.Acts.{open_refusal, text_refusal}
 use Rattle.node_core.specs.declared.station.Station.{Station}
 use Rattle.node_core.specs.Standing.{Holds, IsAnswer}
-use Rattle.node_turns.specs.States.{State}
+use Rattle.node_model.specs.States.{State}
 use Rattle.node_core.proofs.Holding.{links_go, with_carrier}
 
 -- a refusal that is an answer isn't want of memory

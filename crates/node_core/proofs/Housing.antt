@@ -23,22 +23,22 @@ use Rattle.route_table.specs.Table.{to_broadcast}
 use Rattle.route_table.specs.Log as logs
 use Rattle.route_table.specs.Log.{Item}
 use Rattle.node_core.specs.declared.config.NodeConfig.{NodeConfig}
-use Rattle.node_turns.specs.declared.user.User.{User}
-use Rattle.node_turns.specs.declared.user.User.TheVariants.{AtLink}
+use Rattle.node_model.specs.declared.user.User.{User}
+use Rattle.node_model.specs.declared.user.User.TheVariants.{AtLink}
 use Rattle.node_core.specs.Broadcasts.{is_broadcast, round_frames}
-use Rattle.node_turns.specs.Links as links
+use Rattle.node_model.specs.Links as links
 use Rattle.node_core.specs.Configs.{start_of}
-use Rattle.node_turns.specs.Pumping as p
+use Rattle.node_model.specs.Pumping as p
 use Rattle.node_core.specs.Receiving as receiving
 use Rattle.node_core.specs.Broadcasts as rounds
-use Rattle.node_turns.specs.Serving as serving
-use Rattle.node_turns.specs.Sessions as s
-use Rattle.node_turns.specs.Sessions.{Session}
-use Rattle.node_turns.specs.States.{State, at_links, fetch_own, next_hop, put, with_items}
-use Rattle.node_turns.specs.Users.{at_session, change_if}
+use Rattle.node_model.specs.Serving as serving
+use Rattle.node_model.specs.Sessions as s
+use Rattle.node_model.specs.Sessions.{Session}
+use Rattle.node_model.specs.States.{State, at_links, fetch_own, next_hop, put, with_items}
+use Rattle.node_model.specs.Users.{at_session, change_if}
 use Rattle.node_core.proofs.Lodging.{Housed, breaks, closes, dropped, greeted, moved, noticed_all, opens, pumped, sends, stepped, takes, ticks, fewer}
 use Rattle.node_core.proofs.Served.{Serves}
-use Rattle.node_turns.proofs.Telling.{told_kept}
+use Rattle.node_model.proofs.Telling.{told_kept}
 use Rattle.node_core.proofs.Walking.{Walks}
 
 -- ---- no session where no users are served

@@ -6,7 +6,7 @@ use Rattle.std.proofs.lemmas.Bool.Decides.{nat_tests}
 use Rattle.ax_address.specs.Callsign.{Callsign}
 use Rattle.circuit_l4.specs.Standing as ends
 use Rattle.circuit_l4.specs.Opening.{facts_of}
-use Rattle.circuit_l4.specs.State.{Effect, Out, begin, inbox}
+use Rattle.circuit_l4.specs.State.{Effect, begin, inbox}
 use Rattle.circuit_l4.specs.Table.{take_first}
 use Rattle.circuit_l4.specs.declared.notice.EndNotice.{EndNotice}
 use Rattle.circuit_table.specs.CircuitSets as sets
@@ -16,11 +16,12 @@ use Rattle.circuit_table.specs.Sets as s
 use Rattle.circuit_table.specs.Sets.{SetDone, SetState, CircuitTold}
 use Rattle.circuit_table.specs.Standing.{EachStands, Keeps, Rests, if_so, sendings_by, take_answer, untold_of}
 use Rattle.circuit_table.specs.declared.holder.Holder.{Holder}
+use Rattle.circuit_table.proofs.Moving.{no_outs}
 use Rattle.link_table.specs.Standing.{TableView as Kept}
-use Rattle.node_turns.specs.Links as circuits
+use Rattle.node_model.specs.Links as circuits
 use Rattle.node_core.specs.Going.{SetHoldsTold}
-use Rattle.node_turns.specs.States.{State}
-use Rattle.node_turns.specs.Users.{has_taken}
+use Rattle.node_model.specs.States.{State}
+use Rattle.node_model.specs.Users.{has_taken}
 
 -- ---- nothing waits at an end
 
@@ -31,10 +32,6 @@ left_none (x ∷ xs) ys e = absurd (cc e)
 pub right_none : {A : Type 0} (xs ys : List A) → xs ++ ys ≡ [] → ys ≡ []
 right_none [] ys e = e
 right_none (x ∷ xs) ys e = absurd (cc e)
-
-no_outs : (own : Callsign) (ttl id : ℕ) (to : Callsign) (os : List Out) → sendings_by own ttl id to os ≡ [] → os ≡ []
-no_outs own ttl id to [] e = refl
-no_outs own ttl id to (o ∷ os) e = absurd (cc e)
 
 no_notes : (id : ℕ) (ns : List EndNotice) → s.notices id ns ≡ [] → ns ≡ []
 no_notes id [] e = refl

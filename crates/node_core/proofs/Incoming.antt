@@ -28,10 +28,10 @@ use Rattle.node_core.specs.declared.acts.ActRefusal.TheVariants as refusal
 use Rattle.node_core.specs.Broadcasts as rounds
 use Rattle.node_core.specs.Broadcasts.{is_broadcast, round_frames}
 use Rattle.node_core.specs.Receiving as receiving
-use Rattle.node_turns.specs.Links as links
-use Rattle.node_turns.specs.Serving as serving
-use Rattle.node_turns.specs.States.{State, at_links, at_set, next_hop, put, with_items}
-use Rattle.node_turns.proofs.Turns.{kept}
+use Rattle.node_model.specs.Links as links
+use Rattle.node_model.specs.Serving as serving
+use Rattle.node_model.specs.States.{State, at_links, at_set, next_hop, put, with_items}
+use Rattle.node_model.proofs.Turns.{kept}
 
 -- ---- what comes in changes no session
 

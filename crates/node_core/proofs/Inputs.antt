@@ -1,19 +1,18 @@
 -- What the circuits of a node do by inputs: each of their calls is some, and none of these starts the node again.
 use Rattle.std.proofs.Common.{◌≡◌, ◌∙◌, ℕ, refl, sym, ap, List, [], ◌∷◌, ◌++◌, append_assoc, append-nil}
-use Rattle.std.specs.Prelude.{Bool, true, false, if◌then◌else◌, Option, Some, None, Result, Ok, Err}
+use Rattle.std.specs.Prelude.{Bool, true, false, if◌then◌else◌, Option, Some, None}
 use Rattle.std.specs.List.{AllByRecursion}
 use Rattle.ax_address.specs.Callsign.{Callsign, IsCallsign}
 use Rattle.circuit_table.specs.Givings.{IsUp}
-use Rattle.circuit_table.specs.Pumps.{OfEach, of_circuits, runs, ticks_of, Dropped, Offers, Says, Turn, Turned, Waiting, heard_as, hears_by, sent_by_head, sent_to, tells_first, tells_of, with_done}
+use Rattle.circuit_table.specs.Pumps.{OfEach, of_circuits, runs, ticks_of, Dropped, Says, Turn, Turned, Waiting, heard_as, hears_by, tells_first, tells_of, with_done}
 use Rattle.circuit_table.specs.Runs.{IsAct}
-use Rattle.circuit_table.specs.Sets.{Act, Connect, ConnectFor, Comes, Calls, Discard, Restart, Ticks, Holder, SetState, CircuitTold, Made, Sent, Heeded, Notice, Gone, Restarted, Lost, set_step}
-use Rattle.l3_datagram.specs.Datagrams.{Parcel, head_at}
+use Rattle.circuit_table.specs.Sets.{Act, Connect, ConnectFor, Comes, Calls, Discard, Restart, Ticks, Holder, SetState, CircuitTold, set_step}
+use Rattle.circuit_table.proofs.ByInputs.{First, each_goes, tells_it}
+use Rattle.l3_datagram.specs.Datagrams.{Parcel}
 use Rattle.l3_datagram.specs.Routers.{Way, Ends, ToNeighbour, forwarded_by, way}
-use Rattle.l3_datagram.specs.declared.datagram.DatagramHead.{DatagramHead}
-use Rattle.l3_datagram.specs.declared.datagram.DatagramRefusal.{DatagramRefusal}
 use Rattle.l3_datagram.specs.declared.routed.Routed.{Routed}
 use Rattle.l3_datagram.specs.declared.routed.Routed.TheVariants as routed
-use Rattle.node_turns.specs.Links as circuits
+use Rattle.node_model.specs.Links as circuits
 use Rattle.node_core.specs.Runs.{write_in, writes_in}
 
 -- ---- one input after another
@@ -159,37 +158,12 @@ hears_went next_hop now parcel w = by_way now w (way w.set.own next_hop parcel.1
 
 -- ---- what is untold is told
 
-abbrev First : SetState → CircuitTold → List CircuitTold → Turned → Type 0
-First s t rest u = (u.after.set ≡ s) × (u.after.untold ≡ rest) × (of_circuits u.told ≡ t ∷ [])
-
-module _ (next_hop : Callsign → Option Callsign) where
-  to_first : (s : SetState) (t : CircuitTold) (d : List ℕ) (rest : List CircuitTold) (o : Option Callsign) → OfEach (First s t rest) (sent_to next_hop s t d rest o)
-  to_first s t d rest None = (refl, refl, refl)
-  to_first s t d rest (Some hop) = λ answer. (refl, refl, refl)
-
-  head_first : (s : SetState) (t : CircuitTold) (d : List ℕ) (rest : List CircuitTold) (r : Result DatagramHead DatagramRefusal) → OfEach (First s t rest) (sent_by_head next_hop s t d rest r)
-  head_first s t d rest (Err e) = to_first s t d rest None
-  head_first s t d rest (Ok head) = to_first s t d rest (next_hop head.dest)
-
-  tells_it : (s : SetState) (t : CircuitTold) (rest : List CircuitTold) → OfEach (First s t rest) (tells_first next_hop s t rest)
-  tells_it s (Sent id number d) rest = head_first s (Sent id number d) d rest (head_at d)
-  tells_it s (Made id pair partner request) rest = (refl, refl, refl)
-  tells_it s (Heeded id d) rest = (refl, refl, refl)
-  tells_it s (Notice id notice) rest = (refl, refl, refl)
-  tells_it s (Gone id facts) rest = (refl, refl, refl)
-  tells_it s (Restarted pair) rest = (refl, refl, refl)
-  tells_it s (Lost id facts) rest = (refl, refl, refl)
-
 first_went : (w : Waiting) (t : CircuitTold) (rest : List CircuitTold) (u : Turned) → w.untold ≡ t ∷ rest → First w.set t rest u → TurnWent w u
 first_went w t rest u e f = by_none w u.after (of_circuits u.told) f.0 (ap (λ ts. ts ++ u.after.untold) f.2 ∙ ap (λ ts. t ∷ ts) f.1 ∙ sym e)
 
-each_went : (P Q : Turned → Type 0) → ((u : Turned) → P u → Q u) → (t : Turn) → OfEach P t → OfEach Q t
-each_went P Q f (Says u) p = f u p
-each_went P Q f (Offers to d by) p = λ answer. f (by answer) (p answer)
-
 tells_untold : (next_hop : Callsign → Option Callsign) (w : Waiting) (ts : List CircuitTold) → w.untold ≡ ts → OfEach (TurnWent w) (tells_of next_hop w.set ts)
 tells_untold next_hop w [] e = by_none w _ [] refl (sym e)
-tells_untold next_hop w (t ∷ rest) e = each_went (First w.set t rest) (TurnWent w) (λ u f. first_went w t rest u e f) (tells_first next_hop w.set t rest) (tells_it next_hop w.set t rest)
+tells_untold next_hop w (t ∷ rest) e = each_goes (First w.set t rest) (TurnWent w) (λ u f. first_went w t rest u e f) (tells_first next_hop w.set t rest) (tells_it next_hop w.set t rest)
 
 tells_by : (next_hop : Callsign → Option Callsign) (w : Waiting) (o : Option Routed) → OfEach (TurnWent w) (elim o as (λ x. Turn) [
   | Some r ↦ Says (record { told = Some (Dropped r); after = record { set = w.set; untold = w.untold; lost = None }; items = [] })

@@ -14,10 +14,10 @@ use Rattle.link_table.specs.Kept.{OffersLeave, TakesLower}
 use Rattle.link_table.specs.Standing.{AllAnswer, Made, TableView as Kept, after_calls}
 use Rattle.route_table.specs.Table as routes
 use Rattle.node_core.specs.declared.station.Station.{Station}
-use Rattle.node_turns.specs.Pumping.{pump, told_entries}
-use Rattle.node_turns.specs.Sessions.{hear_circuits, hear_if}
+use Rattle.node_model.specs.Pumping.{pump, told_entries}
+use Rattle.node_model.specs.Sessions.{hear_circuits, hear_if}
 use Rattle.node_core.specs.Standing.{Holds}
-use Rattle.node_turns.specs.States.{Entry, Of_set, State, next_hop}
+use Rattle.node_model.specs.States.{Entry, Of_set, State, next_hop}
 use Rattle.node_core.proofs.Calls.{after_call, call_leads, pumped_on}
 
 -- the node after a call, before what was told is entered

@@ -1,4 +1,3 @@
-pub mod Names
 pub mod Holding
 pub mod Hosted
 pub mod Outcomes

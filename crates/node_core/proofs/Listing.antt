@@ -1,29 +1,29 @@
 -- What a session lists of its user, as it hears and as texts go to and fro; and what is done as a text is said or written.
-use Rattle.std.proofs.Common.{◌≡◌, ◌∙◌, ℕ, refl, sym, ap, arith, List, [], ◌∷◌}
+use Rattle.std.proofs.Common.{◌≡◌, ◌∙◌, ℕ, refl, sym, ap, List, [], ◌∷◌}
 use Rattle.std.specs.List.{AllByRecursion}
-use Rattle.std.specs.Prelude.{Bool, true, false, ◌||◌, nat_eq, if◌then◌else◌, Option, Some, None, Result, Ok, Err}
-use Rattle.std.proofs.lemmas.Bool.Decides.{nat_tests}
+use Rattle.std.specs.Prelude.{Bool, true, false, nat_eq, if◌then◌else◌, Option, Some, None, Result, Ok, Err}
 use Rattle.ax_address.specs.Callsign.{Callsign}
+use Rattle.ax_address.proofs.SameCalls.{call_refl}
+use Rattle.ax_address.proofs.SameNumbers.{nat_refl}
 use Rattle.circuit_l4.specs.declared.notice.EndNotice.{EndNotice}
 use Rattle.circuit_l4.specs.declared.refusal.WriteRefusal.TheVariants as refusal
 use Rattle.circuit_table.specs.Sets as sets
 use Rattle.circuit_table.specs.declared.refusal.SetRefusal.{SetRefusal}
 use Rattle.circuit_table.specs.declared.refusal.SetRefusal.TheVariants as set_refusal
 use Rattle.link_table.specs.declared.text_refusal.TextRefusal.{TextRefusal}
-use Rattle.link_table.proofs.Finding.{call_refl}
-use Rattle.node_turns.specs.declared.circuit.Circuit.{Circuit}
-use Rattle.node_turns.specs.declared.stage.Stage.{Stage}
-use Rattle.node_turns.specs.declared.stage.Stage.TheVariants.{AtPrompt, Trying, Failed, Connected}
-use Rattle.node_turns.specs.declared.user.User.{User}
-use Rattle.node_turns.specs.declared.user.User.TheVariants.{AtEnd, AtLink}
-use Rattle.node_turns.specs.Bridging as bridging
-use Rattle.node_turns.specs.Links as links
-use Rattle.node_turns.specs.Pumping.{pump}
-use Rattle.node_turns.specs.Sessions as s
-use Rattle.node_turns.specs.Sessions.{Bridge, Session}
-use Rattle.node_turns.specs.States.{State}
-use Rattle.node_turns.specs.Users as users
-use Rattle.node_turns.specs.Users.{Outcome, Taken, Exhausts, Unheard, Refused}
+use Rattle.node_model.specs.declared.circuit.Circuit.{Circuit}
+use Rattle.node_model.specs.declared.stage.Stage.{Stage}
+use Rattle.node_model.specs.declared.stage.Stage.TheVariants.{AtPrompt, Trying, Failed, Connected}
+use Rattle.node_model.specs.declared.user.User.{User}
+use Rattle.node_model.specs.declared.user.User.TheVariants.{AtEnd, AtLink}
+use Rattle.node_model.specs.Bridging as bridging
+use Rattle.node_model.specs.Links as links
+use Rattle.node_model.specs.Pumping.{pump}
+use Rattle.node_model.specs.Sessions as s
+use Rattle.node_model.specs.Sessions.{Bridge, Session}
+use Rattle.node_model.specs.States.{State}
+use Rattle.node_model.specs.Users as users
+use Rattle.node_model.specs.Users.{Outcome, Taken, Exhausts, Unheard, Refused}
 use Rattle.node_core.specs.Deeds.{Deed, Wrote, Sent, Does, Pumps, Writes, Sends, is_at, is_tried, said_by, said_in, told_in}
 use Rattle.node_core.proofs.Soundness.{Hears}
 
@@ -91,13 +91,6 @@ closed_tried (Trying c) = refl
 closed_tried (Failed c) = refl
 closed_tried (Connected c) = refl
 
-pub self : (id : ℕ) → nat_eq id id ≡ true
-self id = grind (arith, nat_tests)
-
-pub or_true : (b : Bool) → (b || true) ≡ true
-or_true true = refl
-or_true false = refl
-
 -- ---- what is said and written
 
 abbrev pub wrote_deeds : Result (Unit {0}) SetRefusal → ℕ → List ℕ → List Deed
@@ -140,7 +133,7 @@ pub told_all : (u : User) (text : List ℕ) (a : State) (c : Circuit) → AllByR
 told_all (AtEnd id) text a c = by (users.write_answer id text a)
   where
     by : (r : Result (Unit {0}) SetRefusal) → AllByRecursion (λ d. is_at (AtEnd id) c d ≡ true) (wrote_deeds r id text)
-    by (Ok _) = (rw (self id) refl, tt)
+    by (Ok _) = (rw (nat_refl id) refl, tt)
     by (Err why) = tt
 told_all (AtLink peer) text a c = by (links.text_answer peer text a.links)
   where
@@ -169,7 +162,7 @@ pub record IsTelling (u : User) (c : Circuit) (text : List ℕ) (d : Deed) : Typ
   pub own : is_at u c d ≡ true
 
 pub tells_end : (id : ℕ) (c : Circuit) (text : List ℕ) → IsTelling (AtEnd id) c text (Wrote id text)
-tells_end id c text = record { told = rw (self id) refl; said = refl; own = rw (self id) refl }
+tells_end id c text = record { told = rw (nat_refl id) refl; said = refl; own = rw (nat_refl id) refl }
 
 pub tells_link : (peer : Callsign) (c : Circuit) (text : List ℕ) → IsTelling (AtLink peer) c text (Sent peer text)
 tells_link peer c text = record { told = rw (call_refl peer) refl; said = refl; own = call_refl peer }

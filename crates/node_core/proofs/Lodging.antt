@@ -2,9 +2,11 @@
 use Rattle.std.proofs.Common.{◌≡◌, ◌≤◌, ◌<◌, ◌+◌, ◌∙◌, ℕ, refl, sym, ap, subst, arith, List, [], ◌∷◌, ◌++◌, map, slice_get}
 use Rattle.std.specs.Prelude.{Bool, true, false, not, ◌&&◌, ◌||◌, filter, if◌then◌else◌, Some, None}
 use Rattle.std.specs.List.{AllByRecursion}
+use Rattle.std.proofs.lemmas.Bool.{and_parts}
 use Rattle.arrayvec.specs.ArrayVec.{ArrayVec}
 use Rattle.ax_address.specs.declared.address.Address.{Address}
 use Rattle.ax_address.specs.Callsign.{Callsign, same_call}
+use Rattle.ax_address.proofs.SameCalls.{same_call-true}
 use Rattle.ax_link.specs.declared.notice.LinkNotice.{LinkNotice}
 use Rattle.ax_link.specs.declared.notice.LinkNotice.TheVariants as link
 use Rattle.circuit_l4.specs.declared.notice.EndNotice.{EndNotice}
@@ -13,15 +15,14 @@ use Rattle.circuit_table.specs.Sets.{CircuitTold, Made, Sent, Heeded, Notice, Go
 use Rattle.l3_datagram.specs.Datagrams.{Datagram}
 use Rattle.link_table.specs.Ending.{EndsAreTold, IsInOrder, Leaves, LeavesTold, TextsAreOfLinks, has_link, is_end, stands_or_told, tells_end}
 use Rattle.link_table.specs.Table.{Table}
-use Rattle.node_turns.specs.declared.user.User.TheVariants.{AtEnd, AtLink}
-use Rattle.node_turns.specs.Links as links
-use Rattle.node_turns.specs.Pumping.{pump}
-use Rattle.node_turns.specs.Serving as serving
-use Rattle.node_turns.specs.Sessions as s
-use Rattle.node_turns.specs.Sessions.{Session}
-use Rattle.node_turns.specs.States.{State}
-use Rattle.node_turns.specs.Users.{change_if}
-use Rattle.node_core.proofs.Bearing.{same_is}
+use Rattle.node_model.specs.declared.user.User.TheVariants.{AtEnd, AtLink}
+use Rattle.node_model.specs.Links as links
+use Rattle.node_model.specs.Pumping.{pump}
+use Rattle.node_model.specs.Serving as serving
+use Rattle.node_model.specs.Sessions as s
+use Rattle.node_model.specs.Sessions.{Session}
+use Rattle.node_model.specs.States.{State}
+use Rattle.node_model.specs.Users.{change_if}
 use Rattle.node_core.proofs.Owning.{changed_less, filter_less, map_less, one, push_one, total}
 use Rattle.node_core.proofs.Pumped.{pump_keeps, pump_links}
 use Rattle.node_core.proofs.Served.{KeepsUser}
@@ -122,10 +123,6 @@ none_left : (q peer : Callsign) (ss : List Session) → q ≡ peer → total (at
 none_left q peer [] e = refl
 none_left q peer (x ∷ ss) e = omega (arith, none_at q peer x e, none_left q peer ss e)
 
-and_both : (a b : Bool) → (a && b) ≡ true → (a ≡ true) × (b ≡ true)
-and_both true b e = (refl, e)
-and_both false b e = absurd (cc e)
-
 ended : (q : Callsign) (ns : List (Callsign × LinkNotice)) (ss : List Session) → tells_end q ns ≡ true → total (at_link q) (s.hear_links ns ss) ≡ 0
 ended q [] ss e = absurd (cc e)
 ended q (x ∷ ns) ss e = by (same_call q x.0 && is_end x.1) refl e (λ f. ended q ns (s.hear_link x.0 x.1 ss) f)
@@ -134,10 +131,10 @@ ended q (x ∷ ns) ss e = by (same_call q x.0 && is_end x.1) refl e (λ f. ended
         → total (at_link q) (s.hear_links ns (s.hear_link x.0 x.1 ss)) ≡ 0
     by false f g rest = rest g
     by true f g rest =
-        let both = and_both (same_call q x.0) (is_end x.1) f in
+        let both = and_parts (same_call q x.0) (is_end x.1) f in
         let ends : s.ends_link x.1 ≡ true = is_end_is x.1 ∙ both.1 in
         let here : total (at_link q) (s.hear_link x.0 x.1 ss) ≡ 0 =
-        ap (λ b. total (at_link q) (if b then map (s.leave x.0) ss else ss)) ends ∙ none_left q x.0 ss (same_is q x.0 both.0) in
+        ap (λ b. total (at_link q) (if b then map (s.leave x.0) ss else ss)) ends ∙ none_left q x.0 ss (same_call-true q x.0 both.0) in
         omega (arith, here, links_less ns (s.hear_link x.0 x.1 ss) q)
 
 or_first : (a b : Bool) → (a || b) ≡ true → (b ≡ true → ⊥) → a ≡ true
@@ -188,13 +185,13 @@ one_more t peer ss here none l = record { order = l.order; once = λ q. once q (
 
     once : (q : Callsign) (b : Bool) → same_call peer q ≡ b → total (at_link q) (ss ++ new ∷ []) ≤ 1
     once q true e =
-        let free : total (at_link q) ss ≡ 0 = subst (λ (c : Callsign). total (at_link c) ss ≡ 0) (same_is peer q e) (unserved peer ss none) in
+        let free : total (at_link q) ss ≡ 0 = subst (λ (c : Callsign). total (at_link c) ss ≡ 0) (same_call-true peer q e) (unserved peer ss none) in
         omega (arith, sum q, free, most_one (same_call peer q))
     once q false e = let zeroed = ap one e in omega (arith, sum q, zeroed, l.once q)
 
     stands : (q : Callsign) (b : Bool) → same_call peer q ≡ b → 0 < total (at_link q) (ss ++ new ∷ []) → stands_or_told q t ≡ true
     stands q true e some =
-        let linked : has_link q t ≡ true = subst (λ (c : Callsign). has_link c t ≡ true) (same_is peer q e) here in
+        let linked : has_link q t ≡ true = subst (λ (c : Callsign). has_link c t ≡ true) (same_call-true peer q e) here in
         ap (λ b. b || tells_end q t.pending.notices) linked
     stands q false e some = let zeroed = ap one e in l.lodged q (omega (arith, some, sum q, zeroed))
 

@@ -4,6 +4,7 @@ use Rattle.std.specs.Prelude.{Bool, true, false, if◌then◌else◌, nat_eq, ma
 use Rattle.std.specs.List.{AllByRecursion, range_with_len}
 use Rattle.radio_base.specs.declared.payload.Payload.{Payload}
 use Rattle.arrayvec.specs.ArrayVec.{ArrayVec}
+use Rattle.radio_base.proofs.Each.{each_append}
 use Rattle.ax_address.specs.declared.address.Address.{Address}
 use Rattle.link_table.specs.Reaching.{IsWay}
 use Rattle.ax_address.specs.Callsign.{Callsign}
@@ -24,24 +25,23 @@ use Rattle.route_table.specs.Log.{Item}
 use Rattle.node_core.specs.Acts as acts
 use Rattle.ax_link.specs.declared.notice.LinkNotice.{LinkNotice}
 use Rattle.link_table.specs.Reaching.{FramesAreSpelled, IsCall, IsSpelled, Reaches}
-use Rattle.node_core.proofs.Names.{nodes_is_call}
+use Rattle.nodes_broadcast.proofs.Names.{nodes_is_call}
 use Rattle.node_core.specs.Broadcasts.{broadcast_frame, broadcast_octets, entries_of_frame, frame_count, round_frame, round_frames}
 use Rattle.node_core.specs.Carried.{CarriesTraced, IsCarried, IsOfNode, NamesCall, Place, WasBorne, brings_traced, offers_traced}
-use Rattle.node_turns.specs.Links as links
+use Rattle.node_model.specs.Links as links
 use Rattle.node_core.specs.Broadcasts as rounds
-use Rattle.node_turns.specs.Sessions.{Session}
-use Rattle.node_turns.specs.Serving as s
-use Rattle.node_turns.specs.States as states
-use Rattle.node_turns.specs.States.{State, Of_link, at_links, at_set, put, with_items}
+use Rattle.node_model.specs.Sessions.{Session}
+use Rattle.node_model.specs.Serving as s
+use Rattle.node_model.specs.States as states
+use Rattle.node_model.specs.States.{State, Of_link, at_links, at_set, put, with_items}
 use Rattle.node_core.proofs.Inputs.{IsInput}
 use Rattle.node_core.proofs.Pumps.{pumped}
 use Rattle.node_core.proofs.Running.{none_of_links}
 use Rattle.node_core.proofs.Served.{IsAsking}
-use Rattle.node_core.proofs.Tracing.{all_both}
 use Rattle.node_core.proofs.Trails.{Goes, LinksCarry, LinksHold, OwnCarried, input, quiet, still, follows}
 use Rattle.node_core.proofs.Walking.{Walks}
-use Rattle.node_turns.specs.Users.{at_session}
-use Rattle.node_turns.specs.Serving.{drop_over, greet_links}
+use Rattle.node_model.specs.Users.{at_session}
+use Rattle.node_model.specs.Serving.{drop_over, greet_links}
 
 -- a broadcast of a call carries nothing
 pub broadcast_carried : (size : ℕ) (offers : Callsign → Payload → Bool) (own : Callsign) (b : Broadcast) → IsCall own → IsCarried size offers (broadcast_octets own b)
@@ -96,7 +96,7 @@ module _ (here : Place) (law : CarriesWhatWasOffered) (weaker : CarriesByWeaker)
         reaches = (spelled here.size).breaks n.links peer x.reaches;
         own = x.own;
         untold = x.untold;
-        names = all_both NamesCall n.log (logs.Failure peer ∷ []) x.names (tt, tt);
+        names = each_append NamesCall n.log (logs.Failure peer ∷ []) x.names (tt, tt);
         call = x.call;
       })
 
@@ -122,7 +122,7 @@ module _ (here : Place) (law : CarriesWhatWasOffered) (weaker : CarriesByWeaker)
   -- all frames of a node
   pub all_carried : (sent : List (List ℕ)) (n : State) → CarriesTraced here sent n → OwnCarried here sent (states.frames n)
   all_carried sent n x =
-      all_both (λ (f : Written). IsOfNode here sent f.octets.items) n.own (map written n.links.pending.frames) x.own (all_written sent n.links.pending.frames x.links.frames x.reaches.frames)
+      each_append (λ (f : Written). IsOfNode here sent f.octets.items) n.own (map written n.links.pending.frames) x.own (all_written sent n.links.pending.frames x.links.frames x.reaches.frames)
 
   -- they were fetched
   pub fetched_links : (sent : List (List ℕ)) (n : State) → CarriesTraced here sent n → LinksHold here sent (links.all_fetched n.links)
@@ -135,7 +135,7 @@ module _ (here : Place) (law : CarriesWhatWasOffered) (weaker : CarriesByWeaker)
   put_carries sent f n g x = record {
     links = (fetched_links sent n x).0;
     reaches = (fetched_links sent n x).1;
-    own = all_both (λ (y : Written). IsOfNode here sent y.octets.items) (states.frames n) (f ∷ []) (all_carried sent n x) (g, tt);
+    own = each_append (λ (y : Written). IsOfNode here sent y.octets.items) (states.frames n) (f ∷ []) (all_carried sent n x) (g, tt);
     untold = x.untold;
     names = x.names;
     call = x.call;
@@ -163,7 +163,7 @@ module _ (here : Place) (law : CarriesWhatWasOffered) (weaker : CarriesByWeaker)
   pub logged : (items : List Item) (n : State) → AllByRecursion NamesCall items → Goes here n (with_items items n)
   logged items n a =
       quiet here n (with_items items n) [] (sym (append-nil n.entries)) refl refl refl
-      (λ sent x. record { links = x.links; reaches = x.reaches; own = x.own; untold = x.untold; names = all_both NamesCall n.log items x.names a; call = x.call })
+      (λ sent x. record { links = x.links; reaches = x.reaches; own = x.own; untold = x.untold; names = each_append NamesCall n.log items x.names a; call = x.call })
 
   round_goes : (n : State) → Goes here n (rounds.do_round n)
   round_goes n =

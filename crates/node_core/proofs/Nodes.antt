@@ -1,14 +1,12 @@
 -- A whole node, between two inputs.
-use Rattle.std.proofs.Common.{◌≡◌, ◌∙◌, ℕ, List, [], ◌∷◌, ◌++◌, ◌-◌, ap, append-nil, append_assoc, arith, drop, length, length-drop, map, refl, subst, sym, take}
-use Rattle.std.specs.Prelude.{Bool, true, false, Some, Result, Ok, Err, OnOk, OnErr}
+use Rattle.std.proofs.Common.{◌≡◌, ◌∙◌, ℕ, List, [], ◌∷◌, ◌++◌, ◌-◌, ap, append-nil, append_assoc, arith, drop, length, map, refl, subst, sym}
+use Rattle.std.specs.Prelude.{Bool, true, false, Result, Ok, Err, OnOk, OnErr}
 use Rattle.std.specs.List.{AllByRecursion}
-use Rattle.std.proofs.lemmas.List.{drop_at, take_all}
+use Rattle.std.proofs.lemmas.List.{drop_at}
 use Rattle.std.proofs.lemmas.Bool.Decides.{nat_tests}
 use Rattle.circuit_table.specs.Pumps.{Waiting, at_rest, is_drained, TellsLess}
 use Rattle.kiss_framing.specs.Stream as kiss
-use Rattle.kiss_framing.specs.Feeding.{handed_out}
 use Rattle.kiss_framing.specs.Stream.{Item, items}
-use Rattle.kiss_framing.specs.declared.item.KissItem.{KissItem}
 use Rattle.kiss_framing.specs.declared.item.KissItem.TheVariants as kiss_items
 use Rattle.l3_datagram.specs.Routers.{Routing}
 use Rattle.link_table.specs.Standing.{NotNoMemory, TableGoes, TableStands, TableView as LinkTable}
@@ -16,7 +14,7 @@ use Rattle.link_table.specs.Table.{Table}
 use Rattle.link_table.specs.declared.path_refusal.PathRefusal.{PathRefusal}
 use Rattle.link_table.specs.declared.path_refusal.PathRefusal.TheVariants as paths
 use Rattle.node_core.specs.declared.station.Station.{Station}
-use Rattle.node_turns.specs.Links as circuits
+use Rattle.node_model.specs.Links as circuits
 use Rattle.node_core.specs.Inputs.{after_bytes, after_input, after_item, after_items, moment, new_items}
 use Rattle.node_core.specs.Standing.{Kept, NodeStands, view_of, Holds, IsDrained, IsTold, entry_of}
 use Rattle.node_core.specs.Sound.{IsReached, IsSound}
@@ -28,10 +26,10 @@ use Rattle.node_core.specs.Receiving.{take_item}
 use Rattle.link_table.specs.declared.written.Written.{Written}
 use Rattle.node_core.specs.declared.entry.NodeEntry.{NodeEntry}
 use Rattle.link_table.specs.Kept.{OffersLeave, TakesLower}
-use Rattle.node_turns.specs.Pumping.{pump}
-use Rattle.node_turns.proofs.Resting.{pumped_dry}
-use Rattle.node_core.specs.Going.{StationGoes, item_of}
-use Rattle.node_turns.specs.States.{NodeState, State, at_links, fetch_entry, fetch_frame, fetch_own}
+use Rattle.node_model.specs.Pumping.{pump}
+use Rattle.node_model.proofs.Resting.{pumped_dry}
+use Rattle.node_core.specs.Going.{StationGoes}
+use Rattle.node_model.specs.States.{NodeState, State, at_links, fetch_entry, fetch_frame, fetch_own}
 use Rattle.node_core.proofs.Calls.{rest_of, some_pending}
 use Rattle.node_core.proofs.Holding.{links_go, with_carrier}
 
@@ -173,10 +171,6 @@ takes_both now a b c stream first second f g = record {
   taken = λ n h. rw (items_both now f.given g.given n) (g.taken (after_items now f.given n) (f.taken n h));
 }
 
--- the bytes behind those that were taken in
-pub bytes_left : (taken : ℕ) (bytes : List ℕ) → take (length bytes - taken) (drop taken bytes) ≡ drop taken bytes
-bytes_left taken bytes = take_all (length bytes - taken) (drop taken bytes) (omega (arith, length-drop taken bytes))
-
 -- what was given is what is new
 pub given_is_new : (stream bytes : List ℕ) (given : List Item) → items (stream ++ bytes) ≡ items stream ++ given → new_items stream bytes ≡ given
 given_is_new stream bytes given e = ap (drop (length (items stream))) e ∙ drop_at (items stream) given (length (items stream)) refl
@@ -252,7 +246,3 @@ pub sound_path : (r : Result (Unit {0}) PathRefusal) (step : Table → Table) (k
 sound_path r step k router old new e f a goes err waits leads sound =
     sound_fetched (at_links (path_step r step)) (λ n told. told) (λ n. path_waits r step waits n.links) (path_leads r step leads) k (with_carrier k.station router new)
     (links_go (path_step r step) k.station router old new e f (path_goes r step old new a goes err)) (λ drained. drained) sound
-
-pub handed_is : (item : KissItem) → handed_out (Some item) ≡ item_of item ∷ []
-handed_is (kiss_items.Frame port command payload) = refl
-handed_is kiss_items.TooLong = refl

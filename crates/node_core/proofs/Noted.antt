@@ -2,34 +2,35 @@
 use Rattle.std.proofs.Common.{◌≡◌, ◌∙◌, ◌⊎◌, inl, inr, ℕ, refl, sym, ap, subst, append-nil, List, [], ◌∷◌, ◌++◌}
 use Rattle.std.specs.List.{AllByRecursion}
 use Rattle.std.specs.Prelude.{Bool, true, false, not, ◌||◌, ◌&&◌, nat_eq, nat_lt, length, if◌then◌else◌, Option, Some, None, Result, Ok, Err}
+use Rattle.std.proofs.Math.Bool.{or-true}
 use Rattle.ax_address.specs.Callsign.{Callsign}
+use Rattle.ax_address.proofs.SameCalls.{call_refl}
+use Rattle.ax_address.proofs.SameNumbers.{nat_refl, nat_apart}
 use Rattle.circuit_table.specs.Sets as sets
 use Rattle.circuit_table.specs.Standing as answers
 use Rattle.circuit_table.specs.declared.refusal.SetRefusal.{SetRefusal}
 use Rattle.link_table.specs.declared.text_refusal.TextRefusal.{TextRefusal}
-use Rattle.link_table.proofs.Finding.{call_refl}
-use Rattle.node_turns.specs.declared.circuit.Circuit.{Circuit}
-use Rattle.node_turns.specs.declared.reply.Reply.{Reply}
-use Rattle.node_turns.specs.declared.stage.Stage.{Stage}
-use Rattle.node_turns.specs.declared.stage.Stage.TheVariants.{AtPrompt, Trying, Failed, Connected}
-use Rattle.node_turns.specs.declared.user.User.{User}
-use Rattle.node_turns.specs.declared.user.User.TheVariants.{AtEnd, AtLink}
-use Rattle.node_turns.specs.Bridging as bridging
-use Rattle.node_turns.specs.Links as links
-use Rattle.node_turns.specs.Pumping.{pump}
-use Rattle.node_turns.specs.Serving as serving
-use Rattle.node_turns.specs.Serving.{is_at_end}
-use Rattle.node_turns.specs.Sessions.{Session, circuit_of}
-use Rattle.node_turns.specs.States.{State, at_links, at_set}
-use Rattle.node_turns.specs.Turns.{Turn, done, idle, or_else}
-use Rattle.node_turns.specs.Users as users
-use Rattle.node_turns.specs.Users.{Outcome, Taken, Unheard, Refused, at_session, session_at}
+use Rattle.node_model.specs.declared.circuit.Circuit.{Circuit}
+use Rattle.node_model.specs.declared.reply.Reply.{Reply}
+use Rattle.node_model.specs.declared.stage.Stage.{Stage}
+use Rattle.node_model.specs.declared.stage.Stage.TheVariants.{AtPrompt, Trying, Failed, Connected}
+use Rattle.node_model.specs.declared.user.User.{User}
+use Rattle.node_model.specs.declared.user.User.TheVariants.{AtEnd, AtLink}
+use Rattle.node_model.specs.Bridging as bridging
+use Rattle.node_model.specs.Links as links
+use Rattle.node_model.specs.Pumping.{pump}
+use Rattle.node_model.specs.Serving as serving
+use Rattle.node_model.specs.Serving.{is_at_end}
+use Rattle.node_model.specs.Sessions.{Session, circuit_of}
+use Rattle.node_model.specs.States.{State, at_links, at_set}
+use Rattle.node_model.specs.Turns.{Turn, done, idle, or_else}
+use Rattle.node_model.specs.Users as users
+use Rattle.node_model.specs.Users.{Outcome, Taken, Unheard, Refused, at_session, session_at}
 use Rattle.node_core.specs.Deeds.{EndsShowLists, Deed, Wrote, Took, Closed, Sent, Fetched, Does, Rests, Keeps, Pumps, Writes, Takes, Closes, Sends, Fetches, NotesDeeds, SessionsNoteDeeds, given_by, given_to, is_at, is_tried, said_by, said_in, told_in, told_to}
 use Rattle.node_core.proofs.Fine.{placed_said, pumped_placed}
 use Rattle.node_core.proofs.Soundness.{Placed, Same, changed_here, same_hears, same_itself}
-use Rattle.node_core.proofs.Listing.{IsTelling, Lists, closed_tried, deeds_if, does_if, does_write, err_gave, giving_taken, lists_hear, or_true, self, tells_end, tells_link, told_all, told_none, writing_gave, writing_taken, wrote_deeds}
+use Rattle.node_core.proofs.Listing.{IsTelling, Lists, closed_tried, deeds_if, does_if, does_write, err_gave, giving_taken, lists_hear, tells_end, tells_link, told_all, told_none, writing_gave, writing_taken, wrote_deeds}
 use Rattle.node_core.proofs.Shown.{ends_show}
-use Rattle.node_core.proofs.Wrote.{nat_apart}
 
 -- ---- a session that is served
 
@@ -146,7 +147,7 @@ module _ (now nth : ℕ) (n : State) (x : Session) (c : Circuit) (here : session
     does_take o k ds d = Takes n ds c.id held (Pumps _ ds (Keeps took (after_log o).sessions ds d))
 
     its_own : is_at x.user c (Took c.id message) ≡ true
-    its_own = rw (self c.id, or_true (is_at_end c.id x.user)) refl
+    its_own = rw (nat_refl c.id, or-true (is_at_end c.id x.user)) refl
 
     not_said : said_by x.user (Took c.id message ∷ []) ≡ []
     not_said = by x.user apart
@@ -161,13 +162,13 @@ module _ (now nth : ℕ) (n : State) (x : Session) (c : Circuit) (here : session
     kept_back o k e d p = noted k (Took c.id message ∷ []) x.bridge.gave x.bridge.taken (does_take o (pump now k) [] d) (its_own, tt) p (none_told x.user) (no_more x.bridge.taken _ not_said)
       where
         none_told : (u : User) → x.bridge.gave ≡ x.bridge.gave ++ given_by (said_by (AtEnd c.id) (Took c.id message ∷ [])) (told_to u (Took c.id message ∷ []))
-        none_told (AtEnd id) = rw (self c.id) (sym (append-nil x.bridge.gave))
-        none_told (AtLink peer) = rw (self c.id) (sym (append-nil x.bridge.gave))
+        none_told (AtEnd id) = rw (nat_refl c.id) (sym (append-nil x.bridge.gave))
+        none_told (AtLink peer) = rw (nat_refl c.id) (sym (append-nil x.bridge.gave))
 
     -- it is given
     one_told : (u : User) (d : Deed) → told_in u d ≡ message ∷ [] → given_by (said_by (AtEnd c.id) (Took c.id message ∷ d ∷ [])) (told_to u (Took c.id message ∷ d ∷ [])) ≡ message ∷ []
-    one_told (AtEnd id) d e = rw (self c.id, e) refl
-    one_told (AtLink peer) d e = rw (self c.id, e) refl
+    one_told (AtEnd id) d e = rw (nat_refl c.id, e) refl
+    one_told (AtLink peer) d e = rw (nat_refl c.id, e) refl
 
     passed : (d : Deed) (k : State) → IsTelling x.user c message d → Does now (pump now k) (after_log Taken) (d ∷ [])
         → Placed (Listed (y.bridge.gave ++ message ∷ []) x.bridge.taken) nth k.sessions → NotesDeeds now nth c x n (pump now k)
@@ -293,10 +294,10 @@ module _ (now nth : ℕ) (n : State) (x : Session) (c : Circuit) (here : session
       by true e = record {
         deeds = Took id text ∷ [];
         does = λ k ds d. Takes n ds id e (Keeps a b.sessions ds (Pumps b ds d));
-        own = λ ds o. (rw (u, self id) refl, o);
+        own = λ ds o. (rw (u, nat_refl id) refl, o);
         none = λ ds f. rw not_its f;
         said = text ∷ [];
-        says = λ ds f. rw (u, self id) (ap (λ (ms : List (List ℕ)). text ∷ ms) f);
+        says = λ ds f. rw (u, nat_refl id) (ap (λ (ms : List (List ℕ)). text ∷ ms) f);
         placed = pumped_placed (Listed x.bridge.gave (x.bridge.taken ++ text ∷ [])) (lists_hear x.bridge.gave (x.bridge.taken ++ text ∷ []) Stood) now nth b
             (record { x = users.with_text text x; is = changed_here (users.with_text text) n.sessions nth x here; holds = with_text text });
         idles = λ f. absurd (cc f);
@@ -373,7 +374,7 @@ module _ (now nth : ℕ) (n : State) (x : Session) (c : Circuit) (here : session
       does = Keeps m a.sessions ds (does_write now c.id text a (pump now k) (Pumps k [] Rests))
 
       own : (q : Result (Unit {0}) SetRefusal) → Own (wrote_deeds q c.id text)
-      own (Ok _) = (rw (self c.id, or_true (is_at_end c.id x.user)) refl, tt)
+      own (Ok _) = (rw (nat_refl c.id, or-true (is_at_end c.id x.user)) refl, tt)
       own (Err why) = tt
 
       none : (v : User) (q : Result (Unit {0}) SetRefusal) → said_by v (wrote_deeds q c.id text) ≡ []
@@ -428,7 +429,7 @@ module _ (now nth : ℕ) (n : State) (x : Session) (c : Circuit) (here : session
       b = at_set (links.acts (sets.Calls c.id sets.Closes now)) a
 
       own : is_at x.user c (Closed c.id) ≡ true
-      own = rw (self c.id, or_true (is_at_end c.id x.user)) refl
+      own = rw (nat_refl c.id, or-true (is_at_end c.id x.user)) refl
 
       none : (v : User) → said_by v (Closed c.id ∷ []) ≡ []
       none (AtEnd id) = refl

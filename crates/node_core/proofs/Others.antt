@@ -6,15 +6,15 @@ use Rattle.circuit_l4.specs.declared.notice.EndNotice.{EndNotice}
 use Rattle.circuit_table.specs.Pumps.{Of}
 use Rattle.circuit_table.specs.Sets as s
 use Rattle.circuit_table.specs.Sets.{SetState, CircuitTold}
-use Rattle.node_turns.specs.declared.circuit.Circuit.{Circuit}
-use Rattle.node_turns.specs.declared.stage.Stage.{Stage}
-use Rattle.node_turns.specs.declared.stage.Stage.TheVariants.{AtPrompt, Trying, Failed, Connected}
-use Rattle.node_turns.specs.declared.user.User.{User}
-use Rattle.node_turns.specs.declared.user.User.TheVariants.{AtEnd}
-use Rattle.node_turns.specs.Serving.{is_at_end, is_circuit}
-use Rattle.node_turns.specs.Sessions as sessions
-use Rattle.node_turns.specs.Sessions.{Session, circuit_of}
-use Rattle.node_turns.specs.Users as users
+use Rattle.node_model.specs.declared.circuit.Circuit.{Circuit}
+use Rattle.node_model.specs.declared.stage.Stage.{Stage}
+use Rattle.node_model.specs.declared.stage.Stage.TheVariants.{AtPrompt, Trying, Failed, Connected}
+use Rattle.node_model.specs.declared.user.User.{User}
+use Rattle.node_model.specs.declared.user.User.TheVariants.{AtEnd}
+use Rattle.node_model.specs.Serving.{is_at_end, is_circuit}
+use Rattle.node_model.specs.Sessions as sessions
+use Rattle.node_model.specs.Sessions.{Session, circuit_of}
+use Rattle.node_model.specs.Users as users
 use Rattle.node_core.proofs.Owning.{Owns, at_least, one, owned_by, staged, total}
 use Rattle.node_core.proofs.Soundness.{Every, Hears, map_every, push_every}
 

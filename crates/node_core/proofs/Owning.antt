@@ -1,7 +1,8 @@
 -- The ends that sessions own: no two own the same, each has a number that was given, and none is closing that isn't to be.
 use Rattle.std.proofs.Common.{◌≡◌, ◌≤◌, ◌<◌, ◌+◌, ◌⊎◌, inl, inr, ℕ, zero, suc, refl, sym, ap, subst, arith, List, [], ◌∷◌, ◌++◌, map, slice_get, slice_set}
-use Rattle.std.specs.Prelude.{Bool, true, false, not, ◌&&◌, nat_eq, nat_lt, filter, if◌then◌else◌, Option, Some, None}
+use Rattle.std.specs.Prelude.{Bool, true, false, not, ◌&&◌, nat_eq, filter, if◌then◌else◌, Option, Some, None}
 use Rattle.std.proofs.lemmas.Bool.Decides.{nat_tests}
+use Rattle.std.proofs.lemmas.Bool.{cases_lt}
 use Rattle.ax_address.specs.Callsign.{Callsign}
 use Rattle.ax_link.specs.declared.notice.LinkNotice.{LinkNotice}
 use Rattle.circuit_l4.specs.declared.notice.EndNotice.{EndNotice}
@@ -9,16 +10,16 @@ use Rattle.circuit_l4.specs.declared.notice.EndNotice.TheVariants as end
 use Rattle.circuit_l4.specs.declared.pair.Pair.{Pair}
 use Rattle.circuit_table.specs.Pumps.{Of}
 use Rattle.circuit_table.specs.Sets.{SetDone, SetState, CircuitTold, Made, Sent, Heeded, Notice, Gone, Restarted, Lost}
-use Rattle.node_turns.specs.declared.circuit.Circuit.{Circuit}
-use Rattle.node_turns.specs.declared.stage.Stage.{Stage}
-use Rattle.node_turns.specs.declared.stage.Stage.TheVariants.{AtPrompt, Trying, Failed, Connected}
-use Rattle.node_turns.specs.declared.user.User.{User}
-use Rattle.node_turns.specs.declared.user.User.TheVariants.{AtEnd}
+use Rattle.node_model.specs.declared.circuit.Circuit.{Circuit}
+use Rattle.node_model.specs.declared.stage.Stage.{Stage}
+use Rattle.node_model.specs.declared.stage.Stage.TheVariants.{AtPrompt, Trying, Failed, Connected}
+use Rattle.node_model.specs.declared.user.User.{User}
+use Rattle.node_model.specs.declared.user.User.TheVariants.{AtEnd}
 use Rattle.node_core.specs.Runs.{MadeFrom}
-use Rattle.node_turns.specs.Serving.{is_at_end, is_circuit}
-use Rattle.node_turns.specs.Sessions as s
-use Rattle.node_turns.specs.Sessions.{Session, circuit_of}
-use Rattle.node_turns.specs.Users.{change_if}
+use Rattle.node_model.specs.Serving.{is_at_end, is_circuit}
+use Rattle.node_model.specs.Sessions as s
+use Rattle.node_model.specs.Sessions.{Session, circuit_of}
+use Rattle.node_model.specs.Users.{change_if}
 use Rattle.node_core.proofs.Ends.{Once}
 use Rattle.node_core.proofs.Holders.{AreNamed, AreOpen, Below, HaveMessages, Keeps, none_closing}
 use Rattle.node_core.proofs.Leaving.{IsHeld, LeavesHeld, gone_by, gones_both}
@@ -390,16 +391,9 @@ numbered first next (Gone at facts ∷ ts) e = passes first next (Gone at facts)
 numbered first next (Restarted pair ∷ ts) e = passes first next (Restarted pair) ts (λ id. refl) (numbered first next ts e)
 numbered first next (Lost at facts ∷ ts) e = passes first next (Lost at facts) ts (λ id. refl) (numbered first next ts e)
 
-pub below_or : (a b : ℕ) → (a < b) ⊎ (b ≤ a)
-below_or a b = by (nat_lt a b) refl
-  where
-    by : (c : Bool) → nat_lt a b ≡ c → (a < b) ⊎ (b ≤ a)
-    by true e = inl (grind (arith, nat_tests, e))
-    by false e = inr (grind (arith, nat_tests, e))
-
 -- where the next number stays none is made
 pub none_made : (number : ℕ) (ts : List CircuitTold) → MadeFrom number ts number → (id : ℕ) → mades id ts ≡ 0
-none_made number ts e id = by (below_or id number)
+none_made number ts e id = by (cases_lt id number)
   where
     by : (id < number) ⊎ (number ≤ id) → mades id ts ≡ 0
     by (inl low) = (numbered number number ts e).none id low
@@ -440,7 +434,7 @@ owns_input admits set d ts ss o k made known later leaves =
     }
   where
     le : (id : ℕ) → (id < set.number) ⊎ (set.number ≤ id)
-    le id = below_or id set.number
+    le id = cases_lt id set.number
 
     few : (id : ℕ) → (id < set.number) ⊎ (set.number ≤ id) → total (owned_by id) ss + mades id (ts ++ d.told) ≤ 1
     few id (inl low) =

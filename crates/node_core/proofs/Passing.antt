@@ -11,10 +11,10 @@ use Rattle.ax_frame.specs.Frames.{BeginsWith, Frame, frame, SpelledHeadIsRead, h
 use Rattle.ax_frame.specs.Reading.{frame_at, head_end}
 use Rattle.node_core.specs.Broadcasts.{has_netrom_pid, is_ui, nodes_call}
 use Rattle.node_core.specs.Receiving.{take_frame}
-use Rattle.node_turns.specs.Links as links
-use Rattle.node_turns.specs.Serving.{greet_links}
-use Rattle.node_turns.specs.States.{State}
-use Rattle.node_turns.proofs.Settled.{none_greeted}
+use Rattle.node_model.specs.Links as links
+use Rattle.node_model.specs.Serving.{greet_links}
+use Rattle.node_model.specs.States.{State}
+use Rattle.node_model.proofs.Settled.{none_greeted}
 
 not_both : (a b c : Bool) → c ≡ false → (a && (b && c)) ≡ false
 not_both true true c e = e

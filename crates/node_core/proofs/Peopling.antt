@@ -14,7 +14,7 @@ use Rattle.node_core.specs.Configs.{node_of}
 use Rattle.node_core.specs.Inputs.{after_input, after_item, after_items, moment, new_items}
 use Rattle.node_core.specs.Receiving as receiving
 use Rattle.node_core.specs.Broadcasts as rounds
-use Rattle.node_turns.specs.States.{NodeState, State, fetch_own}
+use Rattle.node_model.specs.States.{NodeState, State, fetch_own}
 use Rattle.node_core.specs.Acts.{UserAct}
 use Rattle.node_core.proofs.Counting.{UsersAreFew, users_few}
 use Rattle.node_core.proofs.Housing.{Goes, Peopled, fetched_on, item_on, path_on, starts_on, walks}

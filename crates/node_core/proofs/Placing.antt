@@ -4,11 +4,11 @@ use Rattle.std.specs.Prelude.{Option, Some, None}
 use Rattle.std.specs.Option.{option_map}
 use Rattle.std.proofs.lemmas.Option.{slice_get-map}
 use Rattle.node_core.specs.declared.station.Station.{Station}
-use Rattle.node_turns.specs.Sessions.{Session, bare}
+use Rattle.node_model.specs.Sessions.{Session, bare}
 use Rattle.node_core.specs.Going.{Changes, HoldsTold}
 use Rattle.node_core.specs.Standing.{Holds}
-use Rattle.node_turns.specs.States.{State}
-use Rattle.node_turns.specs.Users.{at_session, change_if, session_at}
+use Rattle.node_model.specs.States.{State}
+use Rattle.node_model.specs.Users.{at_session, change_if, session_at}
 use Rattle.node_core.proofs.Holding.{with_sessions}
 
 -- the code's session in a place is that of the state, but for its bridge

@@ -16,11 +16,11 @@ use Rattle.l3_datagram.specs.declared.routed.Routed.{Routed}
 use Rattle.l3_datagram.specs.declared.routed.Routed.TheVariants as routed
 use Rattle.link_table.specs.Calls.{collect, tell_lost}
 use Rattle.link_table.specs.Table.{Table}
-use Rattle.node_turns.specs.Links as links
-use Rattle.node_turns.specs.Pumping as p
-use Rattle.node_turns.specs.Sessions.{Session, hear_circuits, hear_if}
-use Rattle.node_turns.specs.States.{State, at_links, next_hop}
-use Rattle.node_turns.proofs.Telling.{told_kept}
+use Rattle.node_model.specs.Links as links
+use Rattle.node_model.specs.Pumping as p
+use Rattle.node_model.specs.Sessions.{Session, hear_circuits, hear_if}
+use Rattle.node_model.specs.States.{State, at_links, next_hop}
+use Rattle.node_model.proofs.Telling.{told_kept}
 
 module _ (R : SetState → List CircuitTold → List Session → Type 0)
     (tell : (prompt : Bool) (set : SetState) (t : CircuitTold) (ts : List CircuitTold) (ss : List Session) → R set (t ∷ ts) ss → R set ts (hear_circuits prompt (Of t) ss)) where

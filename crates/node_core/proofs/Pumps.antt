@@ -2,6 +2,8 @@
 use Rattle.std.proofs.Common.{◌≡◌, ◌∙◌, ◌≤◌, ℕ, zero, suc, refl, sym, ap, subst, List, [], ◌∷◌, ◌++◌, length, append-nil}
 use Rattle.std.specs.Prelude.{Bool, true, false, if◌then◌else◌, nat_lt, nat_le, nat_eq, Option, Some, None, Result, Ok, Err}
 use Rattle.std.specs.List.{AllByRecursion}
+use Rattle.std.proofs.lemmas.Bool.{or_right, or_left}
+use Rattle.radio_base.proofs.Each.{each_append}
 use Rattle.ax_address.specs.Callsign.{Callsign, same_call}
 use Rattle.circuit_table.specs.Pumps.{of_circuits, Offers, Says, Turn, Turned}
 use Rattle.circuit_table.specs.Pumps as pumps
@@ -21,14 +23,14 @@ use Rattle.link_table.specs.Laws.{CarriesByWeaker, CarriesWhatWasOffered}
 use Rattle.link_table.specs.Reaching.{FramesAreSpelled, IsCall}
 use Rattle.route_table.specs.Log.{Item}
 use Rattle.node_core.specs.Carried.{CarriesTraced, NamesCall, Place, brings_traced, is_borne, is_of_node, is_passed, is_sent, offers_traced, sends_in}
-use Rattle.node_turns.specs.Links as links
-use Rattle.node_turns.specs.Pumping as p
-use Rattle.node_turns.specs.States.{Settings, State, at_links, next_hop}
+use Rattle.node_model.specs.Links as links
+use Rattle.node_model.specs.Pumping as p
+use Rattle.node_model.specs.States.{Settings, State, at_links, next_hop}
 use Rattle.node_core.proofs.Coming.{told_entry}
 use Rattle.node_core.proofs.Naming.{hop_is_call}
-use Rattle.node_core.proofs.Tracing.{all_back, all_both, hop_is, or_first, or_second, passed_on, read_long, sends_append}
+use Rattle.node_core.proofs.Tracing.{all_back, hop_is, passed_on, read_long, sends_append}
 use Rattle.node_core.proofs.Trails.{Goes, LinksHold, OwnCarried, input, quiet, still, follows}
-use Rattle.node_turns.proofs.Telling.{told_kept}
+use Rattle.node_model.proofs.Telling.{told_kept}
 
 -- a datagram that is handed up is the one that came
 mine_by : (own : Callsign) (d : Datagram) (origin : Callsign) (e : Datagram) (head : DatagramHead) (hop : Option Callsign) (returned mine expired : Bool)
@@ -91,7 +93,7 @@ module _ (here : Place) (law : CarriesWhatWasOffered) (weaker : CarriesByWeaker)
   own_beside sent n m b x = subst (OwnCarried here sent) (sym b.own) x.own
 
   names_beside : (sent : List (List ℕ)) (n m : State) (items : List Item) → Beside n m → AllByRecursion NamesCall items → CarriesTraced here sent n → AllByRecursion NamesCall (m.log ++ items)
-  names_beside sent n m items b a x = all_both NamesCall m.log items (subst (AllByRecursion NamesCall) (sym b.log) x.names) a
+  names_beside sent n m items b a x = each_append NamesCall m.log items (subst (AllByRecursion NamesCall) (sym b.log) x.names) a
 
   turned_goes : (n m : State) (t : Turned) → Beside n m → TurnOk n t → Goes here n (p.with_turned t m)
   turned_goes n m t b (Tells i s u) =
@@ -122,7 +124,7 @@ module _ (here : Place) (law : CarriesWhatWasOffered) (weaker : CarriesByWeaker)
     own = b.own;
     log = b.log;
     links = λ sent x. (
-      (law (offers_traced here sent) (brings_traced here) (nat_eq here.size)).offers m.links to d now (or_first (is_of_node here sent d.items) (is_borne here.borne to d.items) (traced sent x)) (b.links sent x).0,
+      (law (offers_traced here sent) (brings_traced here) (nat_eq here.size)).offers m.links to d now (or_left (is_of_node here sent d.items) (is_borne here.borne to d.items) (traced sent x)) (b.links sent x).0,
       (spelled here.size).offers m.links to d now (call sent x) (b.links sent x).1,
     );
   }
@@ -147,7 +149,7 @@ module _ (here : Place) (law : CarriesWhatWasOffered) (weaker : CarriesByWeaker)
   module _ (hop : Callsign → Option Callsign) (n : State) (hops : HopsAreCalls n hop) where
     first_traced : (id : ℕ) (number : Option ℕ) (d : List ℕ) (rest : List CircuitTold) (head : DatagramHead) → n.set.untold ≡ sets.Sent id number d ∷ rest → head_at d ≡ Ok head → Traced n d
     first_traced id number d rest head e h sent x =
-        or_first (is_sent sent d) (is_passed here.borne here.own d)
+        or_left (is_sent sent d) (is_passed here.borne here.own d)
         ((subst (λ ts. AllByRecursion (λ (c : List ℕ). 15 ≤ length c → is_sent sent c ≡ true) (sends_in ts)) e x.untold).0 (read_long d head h))
 
     to_ok : (t : CircuitTold) (d : List ℕ) (rest : List CircuitTold) (dest : Callsign) (o : Option Callsign) → hop dest ≡ o → n.set.untold ≡ t ∷ rest → Traced n d → EachOk n (pumps.sent_to hop n.set.set t d rest o)
@@ -194,7 +196,7 @@ module _ (here : Place) (law : CarriesWhatWasOffered) (weaker : CarriesByWeaker)
     onward_traced : (hop : Callsign → Option Callsign) (next : Callsign) (d : Datagram) → way n.set.set.own hop parcel.1 ≡ ToNeighbour next d → Traced n d.items
     onward_traced hop next d is sent x =
         let read = read_of n.set.set.own hop parcel.1 next d (head_at parcel.1.items) is in
-        or_second (is_sent sent d.items) (is_passed here.borne here.own d.items)
+        or_right (is_sent sent d.items) (is_passed here.borne here.own d.items)
         (passed_on here.borne here.own parcel.1.items d.items (hop_is parcel.1.items d.items (one_hop n.set.set.own hop parcel.1 next d is) (read_long parcel.1.items read.0 read.1)) (parcel_traced sent x))
 
     heard_ok : (w : Way) (r : Routed) → ((origin : Callsign) (d : Datagram) → r ≡ routed.Mine origin d → d ≡ parcel.1) → TurnOk n (pumps.heard_as now n.set r)

@@ -12,7 +12,7 @@ use Rattle.node_core.specs.Going.{StationGoes}
 use Rattle.node_core.specs.Qualities.{QualityNotNoMemory, is_full, with_quality}
 use Rattle.node_core.specs.Sound.{IsSound}
 use Rattle.node_core.specs.Standing.{Holds, IsDrained, Kept, NodeGoes, view_of}
-use Rattle.node_turns.specs.States.{State}
+use Rattle.node_model.specs.States.{State}
 use Rattle.node_core.proofs.Nodes.{Leads, sound_fetched}
 
 inserted_most : (neighbour : Callsign) (es : List (Callsign × ℕ)) (quality : ℕ) → length (insert_entry same_call es neighbour quality) ≤ suc (length es)

@@ -2,14 +2,15 @@
 use Rattle.std.proofs.Common.{◌≡◌, ◌∙◌, ℕ, zero, suc, refl, sym, ap, subst, arith, length, List, [], ◌∷◌, ◌++◌, append-nil, append_assoc, slice_get}
 use Rattle.std.specs.List.{AllByRecursion}
 use Rattle.std.specs.Prelude.{Bool, true, false, ◌||◌, ◌&&◌, ◌==◌, is_none, not, nat_le, nat_lt, if◌then◌else◌, Option, Some, None, Result, Ok, Err}
+use Rattle.std.proofs.lemmas.Bool.{ne_eqb}
 use Rattle.ax_address.specs.Callsign.{Callsign, same_call, ReadsCallTexts}
 use Rattle.ax_frame.specs.declared.head.Head.{Head}
 use Rattle.ax_frame.specs.declared.frame.FrameRefusal.{FrameRefusal}
 use Rattle.ax_frame.specs.Frames.{Frame, read_head_at, read_at}
 use Rattle.circuit_l4.specs.Opening.{facts_of}
 use Rattle.circuit_l4.specs.State.{inbox}
-use Rattle.node_turns.specs.declared.user.User.{User}
-use Rattle.node_turns.specs.declared.user.User.TheVariants.{AtEnd, AtLink}
+use Rattle.node_model.specs.declared.user.User.{User}
+use Rattle.node_model.specs.declared.user.User.TheVariants.{AtEnd, AtLink}
 use Rattle.circuit_table.specs.CircuitSets.{facts_at}
 use Rattle.circuit_table.specs.Pumps.{TellsLess, runs, ticks_of}
 use Rattle.circuit_table.specs.Sets as sets
@@ -27,28 +28,28 @@ use Rattle.route_table.specs.Log as logs
 use Rattle.route_table.specs.Log.{Item}
 use Rattle.node_core.specs.declared.config.NodeConfig.{NodeConfig}
 use Rattle.node_core.specs.Acts as acts
-use Rattle.node_turns.specs.declared.stage.Stage.{Stage}
-use Rattle.node_turns.specs.declared.stage.Stage.TheVariants.{AtPrompt, Trying, Failed, Connected}
+use Rattle.node_model.specs.declared.stage.Stage.{Stage}
+use Rattle.node_model.specs.declared.stage.Stage.TheVariants.{AtPrompt, Trying, Failed, Connected}
 use Rattle.node_core.specs.Bridged.{Acts, BridgedAt, Bytes, EverySession, Fetches_entry, Fetches_frame, Input, IsBounded, IsBridged, IsClosedLast, IsEndsReader, IsEndsWriter, AsksForCall, Paths, Qualities, SessionsBounded, SessionsBridged, SessionsClosedLast, SessionsReadTheirEnds, SessionsWriteTheirEnds, Ticks, after, after_all}
 use Rattle.node_core.specs.Broadcasts.{is_broadcast}
 use Rattle.node_core.specs.Deeds.{EndsAreNumbered, IsApart, SessionsApart}
-use Rattle.node_turns.specs.Links as links
+use Rattle.node_model.specs.Links as links
 use Rattle.node_core.specs.Configs.{node_of, start_of}
 use Rattle.node_core.specs.Inputs.{after_input, after_item, after_items, moment, new_items, turns_settle}
-use Rattle.node_turns.specs.Pumping.{pump}
+use Rattle.node_model.specs.Pumping.{pump}
 use Rattle.node_core.specs.Receiving as receiving
 use Rattle.node_core.specs.Broadcasts as rounds
-use Rattle.node_turns.specs.Serving.{serve_sessions}
-use Rattle.node_turns.specs.Sessions.{Session, leaves}
-use Rattle.node_turns.specs.Serving as s
-use Rattle.node_turns.specs.Serving.{is_at_end}
+use Rattle.node_model.specs.Serving.{serve_sessions}
+use Rattle.node_model.specs.Sessions.{Session, leaves}
+use Rattle.node_model.specs.Serving as s
+use Rattle.node_model.specs.Serving.{is_at_end}
 use Rattle.node_core.specs.Standing.{IsTold}
-use Rattle.node_turns.specs.States.{NodeState, State, at_links, at_set, fetch_own, with_items}
-use Rattle.node_turns.specs.Users.{has_taken, session_at}
+use Rattle.node_model.specs.States.{NodeState, State, at_links, at_set, fetch_own, with_items}
+use Rattle.node_model.specs.Users.{has_taken, session_at}
 use Rattle.node_core.specs.Waits.{has_text_at}
 use Rattle.node_core.proofs.Faithful.{sessions_fine}
 use Rattle.node_core.proofs.FineActs.{act_fine, round_fine}
-use Rattle.node_core.proofs.FineGiving.{ends_differ, other_number}
+use Rattle.node_core.proofs.FineGiving.{ends_differ}
 use Rattle.node_core.proofs.Fine.{All, Fine, goes_on, pumped}
 use Rattle.node_core.proofs.Holders.{Any, ticks_keep}
 use Rattle.node_core.proofs.Given.{Given, GivesAt, away, deaf, deaf_is, given_left}
@@ -56,13 +57,13 @@ use Rattle.node_core.proofs.Soundness.{Every, Sound, WritesAt, links_every, soun
 use Rattle.node_core.proofs.Making.{step_ok}
 use Rattle.node_core.proofs.Nodes.{items_told, told_after}
 use Rattle.node_core.proofs.Owning.{links_fewer, owns_fewer, owns_input}
-use Rattle.node_turns.proofs.Resting.{pumped_dry}
+use Rattle.node_model.proofs.Resting.{pumped_dry}
 use Rattle.node_core.proofs.Rested.{nothing_left}
 use Rattle.node_core.proofs.Shown.{apart_of, numbers_of}
 use Rattle.node_core.proofs.Short.{Goes, IsShort, act_short, fetched_short, item_short, path_short, starts_short, walks}
 use Rattle.node_core.proofs.Walking.{tick_on, turn_on}
 use Rattle.node_core.proofs.Wrote.{Written as WritesAll, WrittenAt, WroteAt, rest_waits, ticks_wrote, written_same}
-use Rattle.node_turns.proofs.Turns.{kept, settled_kept}
+use Rattle.node_model.proofs.Turns.{kept, settled_kept}
 use Rattle.node_core.proofs.Leaving.{calls_leaves}
 
 -- ---- the settling
@@ -300,7 +301,7 @@ module _ (offers : OffersLeave) (takes : TakesLower) (less : TellsLess) (law : C
   is_apart n f nth x e c h = by x.user refl
     where
       by : (u : User) → x.user ≡ u → is_at_end c.id u ≡ false
-      by (AtEnd id) g = other_number id c.id (λ same. ends_differ id n nth x f e g c h (sym same))
+      by (AtEnd id) g = ne_eqb id c.id (λ same. ends_differ id n nth x f e g c h (sym same))
       by (AtLink peer) g = refl
 
   pub apart : SessionsApart

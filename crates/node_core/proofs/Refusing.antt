@@ -15,7 +15,7 @@ use Rattle.node_core.specs.Acts.{lock, connect_refusal, lock_refusal}
 use Rattle.node_core.specs.Receiving.{has_room}
 use Rattle.node_core.specs.Going.{Answers}
 use Rattle.node_core.specs.Standing.{Holds, IsAnswer}
-use Rattle.node_turns.specs.States.{State, with_items}
+use Rattle.node_model.specs.States.{State, with_items}
 use Rattle.node_core.proofs.Holding.{no_room}
 
 -- ---- locks

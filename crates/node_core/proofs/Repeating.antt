@@ -1,16 +1,18 @@
 -- A carried frame that a repeater has repeated is the same, with the H bit of that repeater set, and is carried.
-use Rattle.std.proofs.Common.{◌≡◌, ◌∙◌, ◌+◌, ◌*◌, ◌-◌, ◌^◌, ◌<◌, ◌≤◌, ℕ, zero, suc, refl, sym, ap, subst, arith, List, [], ◌∷◌, ◌++◌, length, map, append_assoc, replicate, inl, inr}
+use Rattle.std.proofs.Common.{◌≡◌, ◌∙◌, ◌+◌, ◌*◌, ◌-◌, ◌^◌, ◌<◌, ◌≤◌, ℕ, zero, suc, refl, sym, ap, subst, arith, List, [], ◌∷◌, ◌++◌, length, map, append_assoc, inl, inr}
 use Rattle.std.specs.Prelude.{Bool, true, false, ◌⊎◌, nat_eq, if◌then◌else◌, cond, slice_set, slice_index}
 use Rattle.std.specs.List.{AllByRecursion, prefix_len}
 use Rattle.std.specs.Int.Bits.{bit_and, bit_or, and_zero_r}
 use Rattle.std.proofs.lemmas.Nat.{and_block, or_disjoint}
-use Rattle.std.proofs.lemmas.List.{length-append, length-map, length-replicate}
+use Rattle.std.proofs.lemmas.List.{length-map}
 use Rattle.radio_base.specs.declared.payload.Payload.{Payload}
-use Rattle.ax_address.specs.Callsign.{Callsign, IsCallsign, name_in, same_call}
+use Rattle.ax_address.specs.Callsign.{Callsign, same_call}
 use Rattle.ax_address.specs.declared.address.Address.{Address}
 use Rattle.ax_address.specs.Octets.{address_octets, ssid_octet}
 use Rattle.ax_frame.specs.Controls.{control_octets}
 use Rattle.ax_frame.specs.Frames.{Frame, IsAddress, addresses, addresses_octets, frame, head, pid_octets}
+use Rattle.ax_frame.proofs.Addresses.{six_letters}
+use Rattle.ax_frame.proofs.Spelled.{seven}
 use Rattle.digi_path.specs.Paths.{Action, For_me, Repeat, Not_yet, Heard, action, behind, has_repeated, repeated}
 use Rattle.link_table.specs.Frames as frames
 use Rattle.link_table.specs.Laws.{FrameHolds}
@@ -20,20 +22,6 @@ use Rattle.node_core.specs.Receiving.{repeated_octets}
 use Rattle.node_core.proofs.Spelling.{parted}
 
 -- ---- the H bit of an address
-
-six : (letters : List ℕ) (ssid : ℕ) → IsCallsign letters ssid → length letters ≡ 6
-six letters ssid i =
-    let few = i.six in
-    let blank : ℕ = 32 in
-    ap length i.spaces
-    ∙ (let a = length-append (name_in letters) (replicate (6 - length (name_in letters)) blank) in let b = length-replicate (6 - length (name_in letters)) blank in omega (arith, a, b, few))
-
-seven : (a : Address) (last : Bool) → IsAddress a → length (address_octets a last) ≡ 7
-seven a last i =
-    let b = length-append (map (λ o. 2 * o) a.call.letters) (ssid_octet a last ∷ []) in
-    let c = length-map a.call.letters (λ o. 2 * o) in
-    let d = six a.call.letters a.call.ssid i in
-    omega (arith, b, c, d)
 
 or_high : (n : ℕ) → n < 128 → bit_or n 128 ≡ n + 128
 or_high n low =
@@ -83,7 +71,7 @@ raised_here : (r : Address) (last : Bool) (more : List ℕ) → IsAddress r → 
 unfolding raised
 raised_here r last more i e =
     let letters = map (λ o. 2 * o) r.call.letters in
-    let long : 6 ≡ length letters + 0 = (let a = length-map r.call.letters (λ o. 2 * o) in let b = six r.call.letters r.call.ssid i in omega (arith, a, b)) in
+    let long : 6 ≡ length letters + 0 = (let a = length-map r.call.letters (λ o. 2 * o) in let b = six_letters r.call.letters r.call.ssid i in omega (arith, a, b)) in
     ap (raised 6) (append_assoc letters (ssid_octet r last ∷ []) more)
     ∙ (raised_behind letters (ssid_octet r last ∷ more) 6 0 long
     ∙ (ap (λ o. letters ++ o ∷ more) (bits last r e i) ∙ sym (append_assoc letters (ssid_octet (repeated r) last ∷ []) more)))

@@ -4,20 +4,20 @@ use Rattle.std.specs.List.{AllByRecursion}
 use Rattle.std.specs.Prelude.{Bool, true, false, ◌||◌, if◌then◌else◌}
 use Rattle.circuit_table.specs.Pumps.{TellsLess}
 use Rattle.link_table.specs.Kept.{OffersLeave, TakesLower}
-use Rattle.node_turns.specs.Links as links
+use Rattle.node_model.specs.Links as links
 use Rattle.node_core.specs.Inputs.{after_input, turns_settle}
 use Rattle.node_core.specs.Laws.{InputsSettle, NothingLeft, NothingLeftAfterInputs, SettlesAs}
-use Rattle.node_turns.specs.Pumping as p
-use Rattle.node_turns.specs.Serving as serving
-use Rattle.node_turns.specs.Sessions.{Session}
-use Rattle.node_turns.specs.States.{State}
-use Rattle.node_turns.specs.Turns.{SettlesTo, Turn, idle}
+use Rattle.node_model.specs.Pumping as p
+use Rattle.node_model.specs.Serving as serving
+use Rattle.node_model.specs.Sessions.{Session}
+use Rattle.node_model.specs.States.{State}
+use Rattle.node_model.specs.Turns.{SettlesTo, Turn, idle}
 use Rattle.node_core.specs.Waits.{WaitsForRoom}
-use Rattle.node_turns.proofs.Falling.{sessions_served}
-use Rattle.node_turns.proofs.Resting.{drop_falls, dropped_none, pumped_dry}
-use Rattle.node_turns.proofs.Settled.{users_served, hosted_idle}
-use Rattle.node_turns.proofs.Telling.{tells_to}
-use Rattle.node_turns.proofs.Turns.{once, settle_to, settled_rests}
+use Rattle.node_model.proofs.Falling.{sessions_served}
+use Rattle.node_model.proofs.Resting.{drop_falls, dropped_none, pumped_dry}
+use Rattle.node_model.proofs.Settled.{users_served, hosted_idle}
+use Rattle.node_model.proofs.Telling.{tells_to}
+use Rattle.node_model.proofs.Turns.{once, settle_to, settled_rests}
 use Rattle.node_core.proofs.Waiting.{sessions_rest}
 
 module _ (offers : OffersLeave) (takes : TakesLower) (less : TellsLess) where

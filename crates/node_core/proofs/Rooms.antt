@@ -29,14 +29,14 @@ use Rattle.link_table.specs.Table.{Linked, Table}
 use Rattle.link_table.specs.Texts.{room_of}
 use Rattle.link_table.proofs.Rooms.{offers_take_one, room_takes_texts}
 use Rattle.route_table.specs.Log.{Item}
-use Rattle.node_turns.specs.Links as links
-use Rattle.node_turns.specs.Pumping as p
-use Rattle.node_turns.specs.States.{State, at_set, next_hop}
-use Rattle.node_turns.specs.Users as users
+use Rattle.node_model.specs.Links as links
+use Rattle.node_model.specs.Pumping as p
+use Rattle.node_model.specs.States.{State, at_set, next_hop}
+use Rattle.node_model.specs.Users as users
 use Rattle.node_core.proofs.Ends.{end_in, every_in}
 use Rattle.node_core.proofs.Holders.{AreNamed}
 use Rattle.node_core.proofs.Owning.{one}
-use Rattle.node_turns.proofs.Telling.{told_kept}
+use Rattle.node_model.proofs.Telling.{told_kept}
 
 -- ---- what goes over a link
 

@@ -23,23 +23,23 @@ use Rattle.node_core.specs.declared.acts.ActRefusal.TheVariants as refusal
 use Rattle.node_core.specs.Acts as acts
 use Rattle.node_core.specs.Acts.{Answered, UserAct}
 use Rattle.node_core.specs.Broadcasts.{is_broadcast, round_frames}
-use Rattle.node_turns.specs.Links as links
+use Rattle.node_model.specs.Links as links
 use Rattle.node_core.specs.Inputs.{after_input, after_item, after_items, moment, new_items}
 use Rattle.node_core.specs.Laws.{NothingLeftAfterInputs}
 use Rattle.node_core.specs.Receiving as receiving
 use Rattle.node_core.specs.Broadcasts as rounds
 use Rattle.node_core.specs.Runs.{ActsRun, BytesRun, IsUserAct, MadeFrom, RunsBy, TicksRun, circuits_told, user_writes, write_in}
-use Rattle.node_turns.specs.Serving as s
+use Rattle.node_model.specs.Serving as s
 use Rattle.node_core.specs.Standing.{IsTold}
-use Rattle.node_turns.specs.States.{Of_link, Overflow, Settings, State, at_links, at_set, put, with_items}
+use Rattle.node_model.specs.States.{Of_link, Overflow, Settings, State, at_links, at_set, put, with_items}
 use Rattle.node_core.proofs.Inputs.{are_acts, are_up, retold, stays, ticks_went}
 use Rattle.node_core.proofs.Making.{runs_ok}
 use Rattle.node_core.proofs.Nodes.{items_told, told_after}
 use Rattle.node_core.proofs.Coming.{Came, act_came, either, pumped_came, same_came, still, then_came}
 use Rattle.node_core.proofs.Served.{IsAsking, Serves, served_on}
 use Rattle.node_core.proofs.Walking.{Parts, ServesSo, do_by, settled_by, tick_by}
-use Rattle.node_turns.specs.Users.{at_session}
-use Rattle.node_turns.specs.Serving.{drop_over, greet_links, serve_sessions}
+use Rattle.node_model.specs.Users.{at_session}
+use Rattle.node_model.specs.Serving.{drop_over, greet_links, serve_sessions}
 
 -- ---- each thing that an input is made of
 

@@ -20,25 +20,25 @@ use Rattle.node_prompt.specs.declared.command.Command.{Command}
 use Rattle.node_prompt.specs.declared.command.Command.TheVariants as command
 use Rattle.node_prompt.specs.declared.line_refusal.LineRefusal.{LineRefusal}
 use Rattle.node_prompt.specs.declared.line_refusal.LineRefusal.TheVariants.{TooLong}
-use Rattle.node_turns.specs.Links as links
+use Rattle.node_model.specs.Links as links
 use Rattle.node_prompt.specs.declared.command.Verb.{Verb}
 use Rattle.node_prompt.specs.declared.command.Verb.TheVariants as verb
-use Rattle.node_turns.specs.declared.circuit.Circuit.{Circuit}
-use Rattle.node_turns.specs.declared.reply.Reply.{Reply}
-use Rattle.node_turns.specs.declared.stage.Stage.{Stage}
-use Rattle.node_turns.specs.declared.stage.Stage.TheVariants.{AtPrompt, Trying, Failed, Connected}
-use Rattle.node_turns.specs.declared.user.User.{User}
-use Rattle.node_turns.specs.declared.user.User.TheVariants.{AtEnd, AtLink}
-use Rattle.node_turns.specs.Asking as asking
-use Rattle.node_turns.specs.Bridging as bridging
-use Rattle.node_turns.specs.Pumping.{pump}
-use Rattle.node_turns.specs.Serving as serving
-use Rattle.node_turns.specs.Sessions.{Session}
-use Rattle.node_turns.specs.States.{State, at_links, at_set, next_hop}
-use Rattle.node_turns.specs.Turns.{Turn, or_else}
-use Rattle.node_turns.specs.Users as users
-use Rattle.node_turns.specs.Asking.{view}
-use Rattle.node_turns.specs.Users.{at_session, session_at}
+use Rattle.node_model.specs.declared.circuit.Circuit.{Circuit}
+use Rattle.node_model.specs.declared.reply.Reply.{Reply}
+use Rattle.node_model.specs.declared.stage.Stage.{Stage}
+use Rattle.node_model.specs.declared.stage.Stage.TheVariants.{AtPrompt, Trying, Failed, Connected}
+use Rattle.node_model.specs.declared.user.User.{User}
+use Rattle.node_model.specs.declared.user.User.TheVariants.{AtEnd, AtLink}
+use Rattle.node_model.specs.Asking as asking
+use Rattle.node_model.specs.Bridging as bridging
+use Rattle.node_model.specs.Pumping.{pump}
+use Rattle.node_model.specs.Serving as serving
+use Rattle.node_model.specs.Sessions.{Session}
+use Rattle.node_model.specs.States.{State, at_links, at_set, next_hop}
+use Rattle.node_model.specs.Turns.{Turn, or_else}
+use Rattle.node_model.specs.Users as users
+use Rattle.node_model.specs.Asking.{view}
+use Rattle.node_model.specs.Users.{at_session, session_at}
 
 -- what a user asks the circuits for
 abbrev pub IsAsking : sets.Act → Type 0

@@ -2,12 +2,13 @@
 use Rattle.std.proofs.Common.{◌≡◌, ◌<◌, ◌≤◌, ◌+◌, ◌∙◌, ℕ, zero, suc, refl, sym, ap, subst, arith, length, List, [], ◌∷◌, map}
 use Rattle.std.specs.Prelude.{Bool, true, false, ◌||◌, filter, if◌then◌else◌}
 use Rattle.std.proofs.lemmas.List.{length-map}
+use Rattle.std.proofs.Math.Bool.{or-false}
 use Rattle.node_core.specs.declared.station.Station.{Station}
-use Rattle.node_turns.specs.Serving.{serve, serve_each}
-use Rattle.node_turns.specs.Sessions.{Session, bare}
+use Rattle.node_model.specs.Serving.{serve, serve_each}
+use Rattle.node_model.specs.Sessions.{Session, bare}
 use Rattle.node_core.specs.Standing.{Holds}
-use Rattle.node_turns.specs.States.{State}
-use Rattle.node_turns.specs.Turns.{Turn, or_else}
+use Rattle.node_model.specs.States.{State}
+use Rattle.node_model.specs.Turns.{Turn, or_else}
 
 -- some were served, and so many more from this place on come to the whole
 pub record IsLeft (now : ℕ) (whole : Turn State) (nth k : ℕ) (served : Bool) (m : State) : Type 0 where
@@ -17,10 +18,6 @@ pub record IsLeft (now : ℕ) (whole : Turn State) (nth k : ℕ) (served : Bool)
 or_moves : (a b c : Bool) → (a || (b || c)) ≡ ((a || b) || c)
 or_moves true b c = refl
 or_moves false b c = refl
-
-or_none : (a : Bool) → (a || false) ≡ a
-or_none true = refl
-or_none false = refl
 
 -- the session in this place is served
 pub one_more : (now : ℕ) (whole : Turn State) (nth k all : ℕ) (served did : Bool) (m : State) → nth + k ≡ all → nth < all → did ≡ (serve now nth m).did → IsLeft now whole nth k served m
@@ -36,7 +33,7 @@ one_more now whole nth (suc k) all served did m e within same left =
     (k, omega (arith, e), subst (λ (j : ℕ). IsLeft now whole j k (served || did) (serve now nth m).after) next moved)
 
 pub none_more : (now : ℕ) (whole : Turn State) (nth k all : ℕ) (served : Bool) (m : State) → nth + k ≡ all → all ≤ nth → IsLeft now whole nth k served m → (whole.after ≡ m) × (whole.did ≡ served)
-none_more now whole nth zero all served m e over left = (left.after, left.did ∙ or_none served)
+none_more now whole nth zero all served m e over left = (left.after, left.did ∙ or-false served)
 none_more now whole nth (suc k) all served m e over left = absurd (omega (arith, e, over))
 
 pub same_number : (s : Station) (n : State) → Holds s n → length s.sessions.items ≡ length n.sessions

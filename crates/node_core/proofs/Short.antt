@@ -3,6 +3,7 @@ use Rattle.std.proofs.Common.{◌≡◌, ◌≤◌, ◌⊎◌, inl, inr, ℕ, re
 use Rattle.std.specs.List.{AllByRecursion}
 use Rattle.std.specs.Prelude.{Bool, true, false, ◌&&◌, ◌||◌, ◌==◌, nat_eq, nat_le, nat_lt, is_some, unwrap_or, if◌then◌else◌, Option, Some, None, Result, Ok, Err}
 use Rattle.std.proofs.lemmas.Bool.Decides.{nat_tests}
+use Rattle.std.proofs.lemmas.Bool.{and_parts}
 use Rattle.arrayvec.specs.ArrayVec.{ArrayVec}
 use Rattle.radio_base.specs.declared.payload.Payload.{Payload}
 use Rattle.ax_address.specs.Callsign.{Callsign, same_call}
@@ -22,7 +23,7 @@ use Rattle.l3_datagram.specs.Datagrams.{Datagram}
 use Rattle.link_table.specs.Calls as calls
 use Rattle.link_table.specs.Frames.{plain_text, segmented}
 use Rattle.link_table.specs.Laws.{Carries, CarriesOn, CarriesWhatWasOffered, LinkHolds}
-use Rattle.link_table.specs.Standing.{width}
+use Rattle.radio_base.specs.Modulus.{extended_if, modulus_size}
 use Rattle.link_table.specs.Table.{Linked, Table, link_with}
 use Rattle.link_table.specs.Texts as texts
 use Rattle.link_table.specs.Works.{is_text, text_by}
@@ -44,12 +45,12 @@ use Rattle.node_core.specs.Acts as acts
 use Rattle.node_core.specs.Acts.{Answered, UserAct}
 use Rattle.node_core.specs.Broadcasts.{is_broadcast, round_frames}
 use Rattle.node_core.specs.Configs.{start_of}
-use Rattle.node_turns.specs.Links as links
-use Rattle.node_turns.specs.Pumping.{pump}
+use Rattle.node_model.specs.Links as links
+use Rattle.node_model.specs.Pumping.{pump}
 use Rattle.node_core.specs.Receiving as receiving
 use Rattle.node_core.specs.Broadcasts as rounds
-use Rattle.node_turns.specs.Serving as s
-use Rattle.node_turns.specs.States.{State, at_links, fetch_own, next_hop, put, with_items}
+use Rattle.node_model.specs.Serving as s
+use Rattle.node_model.specs.States.{State, at_links, fetch_own, next_hop, put, with_items}
 use Rattle.node_core.proofs.Pumped.{pump_links}
 use Rattle.node_core.proofs.Served.{Serves}
 use Rattle.node_core.proofs.Walking.{Walks}
@@ -74,10 +75,6 @@ link_is P peer (m ∷ ls) l a e = by (same_call peer m.peer) e (λ g. link_is P 
     by : (b : Bool) → (if b then Some m else link_with peer ls) ≡ Some l → (link_with peer ls ≡ Some l → P l) → P l
     by true g rest = let same : m ≡ l = cc g in subst P same a.0
     by false g rest = rest g
-
-and_parts : (a b : Bool) → (a && b) ≡ true → (a ≡ true) × (b ≡ true)
-and_parts true b e = (refl, e)
-and_parts false b e = absurd (cc e)
 
 joined_most : (a : Answer) → text_by (whole_of a) ≡ true → length (texts.message_of a) ≤ 8192
 joined_most (Whole pid message) e =
@@ -315,10 +312,10 @@ module _ (law : CarriesWhatWasOffered) where
 pub starts_short : (hosts : Bool) (c : NodeConfig) → IsShort (start_of hosts c).links
 starts_short hosts c = record { modulus = modulus c.modulo128; size = size c.modulo128; links = tt; waiting = tt; frames = tt }
   where
-    modulus : (b : Bool) → (width b ≡ 8) ⊎ (width b ≡ 128)
+    modulus : (b : Bool) → (modulus_size (extended_if b) ≡ 8) ⊎ (modulus_size (extended_if b) ≡ 128)
     modulus true = inr refl
     modulus false = inl refl
 
-    size : (b : Bool) → of_frames (width b) ≡ true
+    size : (b : Bool) → of_frames (modulus_size (extended_if b)) ≡ true
     size true = refl
     size false = refl

@@ -3,20 +3,21 @@ use Rattle.std.proofs.Common.{◌≡◌, ◌<◌, ℕ, refl, sym, subst, arith, 
 use Rattle.std.specs.List.{AllByRecursion}
 use Rattle.std.specs.Prelude.{Bool, true, false, nat_eq, if◌then◌else◌, Ok}
 use Rattle.std.proofs.lemmas.Bool.Decides.{nat_tests}
+use Rattle.ax_address.proofs.SameNumbers.{nat_apart}
 use Rattle.circuit_table.specs.Sets as sets
 use Rattle.circuit_table.specs.Sets.{Holder, SetState, set_step}
 use Rattle.circuit_table.specs.Standing as answers
-use Rattle.node_turns.specs.declared.user.User.TheVariants.{AtEnd}
-use Rattle.node_turns.specs.Links as links
-use Rattle.node_turns.specs.Pumping.{pump}
-use Rattle.node_turns.specs.States.{State}
-use Rattle.node_turns.specs.Users.{has_taken}
+use Rattle.node_model.specs.declared.user.User.TheVariants.{AtEnd}
+use Rattle.node_model.specs.Links as links
+use Rattle.node_model.specs.Pumping.{pump}
+use Rattle.node_model.specs.States.{State}
+use Rattle.node_model.specs.Users.{has_taken}
 use Rattle.node_core.specs.Deeds.{AreApart, Deed, Does, Rests, Keeps, Pumps, Writes, Takes, Closes, Sends, Fetches, EndsShowDeeds, said_by, told_to}
 use Rattle.node_core.proofs.Ends as ends
 use Rattle.node_core.proofs.Ends.{Once, Other}
 use Rattle.node_core.proofs.Holders.{Below, closes_keep, comes_keeps, takes_keep, writes_keep}
 use Rattle.node_core.proofs.Pumped.{pump_keeps}
-use Rattle.node_core.proofs.Wrote.{WroteAt, closes_wrote, comes_wrote, its_take, its_write, nat_apart, others_wrote}
+use Rattle.node_core.proofs.Wrote.{WroteAt, closes_wrote, comes_wrote, its_take, its_write, others_wrote}
 
 -- ends that are numbered, and what was written to one of them
 abbrev Numbered : SetState → Type 0

@@ -4,10 +4,11 @@ use Rattle.std.specs.Prelude.{Bool, true, false, ◌&&◌, ◌||◌, nat_eq, nat
 use Rattle.std.specs.Cmp.Lexicographic.{pointwise}
 use Rattle.std.specs.List.{AllByRecursion}
 use Rattle.std.proofs.lemmas.Bool.Decides.{nat_tests}
-use Rattle.std.proofs.lemmas.Bool.{ltb-false}
+use Rattle.std.proofs.lemmas.Bool.{ltb-false, or_right, and_from}
 use Rattle.std.proofs.lemmas.Cmp.{nat_list_eq_equiv}
 use Rattle.ax_address.specs.Callsign.{Callsign, same_call}
 use Rattle.ax_address.specs.Results.{◌>>=◌}
+use Rattle.ax_address.proofs.SameCalls.{same_letters}
 use Rattle.circuit_table.specs.Events.{is_copy}
 use Rattle.circuit_table.specs.Sets as sets
 use Rattle.circuit_table.specs.Sets.{CircuitTold}
@@ -16,27 +17,11 @@ use Rattle.l3_datagram.specs.Onward.{IsOneHopOn}
 use Rattle.l3_datagram.specs.declared.datagram.DatagramHead.{DatagramHead}
 use Rattle.l3_datagram.specs.declared.datagram.DatagramRefusal.{DatagramRefusal}
 use Rattle.l3_datagram.specs.declared.datagram.DatagramRefusal.TheVariants.{Short, TooLong}
+use Rattle.link_table.proofs.Reports.{or_both}
+use Rattle.link_table.proofs.Widening.{or_map}
 use Rattle.node_core.specs.Carried.{Borne, is_borne, is_hop, is_passed, is_sent, sends_in, ttl_of}
 
 -- ---- more that were sent, or that the air has carried
-
-or_right : (a b : Bool) → b ≡ true → (a || b) ≡ true
-or_right true b e = refl
-or_right false b e = e
-
-pub or_map : (a b c : Bool) → (b ≡ true → c ≡ true) → (a || b) ≡ true → (a || c) ≡ true
-or_map true b c f e = refl
-or_map false b c f e = f e
-
-pub or_both : (a b c d : Bool) → (a ≡ true → c ≡ true) → (b ≡ true → d ≡ true) → (a || b) ≡ true → (c || d) ≡ true
-or_both true b c d f g e = let one : c ≡ true = f refl in ap (λ x. x || d) one
-or_both false b c d f g e = or_right c d (g e)
-
-pub or_first : (a b : Bool) → a ≡ true → (a || b) ≡ true
-or_first a b e = ap (λ x. x || b) e
-
-pub or_second : (a b : Bool) → b ≡ true → (a || b) ≡ true
-or_second a b e = or_right a b e
 
 pub sent_more : (sent more : List (List ℕ)) (d : List ℕ) → is_sent sent d ≡ true → is_sent (sent ++ more) d ≡ true
 sent_more [] more d e = absurd (cc e)
@@ -68,21 +53,10 @@ pub and_right : (a b : Bool) → (a && b) ≡ true → b ≡ true
 and_right true b e = e
 and_right false b e = absurd (cc e)
 
-pub same_list : (xs ys : List ℕ) → pointwise nat_eq xs ys ≡ true → xs ≡ ys
-same_list [] [] e = refl
-same_list [] (y ∷ ys) e = absurd (cc e)
-same_list (x ∷ xs) [] e = absurd (cc e)
-same_list (x ∷ xs) (y ∷ ys) e =
-    let first : x ≡ y = (let f : nat_eq x y ≡ true = and_left (nat_eq x y) (pointwise nat_eq xs ys) e in grind (arith, nat_tests, f)) in
-    ap (λ zs. x ∷ zs) (same_list xs ys (and_right (nat_eq x y) (pointwise nat_eq xs ys) e)) ∙ ap (λ z. z ∷ ys) first
-
-pub and_of : (a b : Bool) → a ≡ true → b ≡ true → (a && b) ≡ true
-and_of a b p q = rw (p, q) refl
-
 own_one : (d : List ℕ) → 15 ≤ length d → (pointwise nat_eq d d && nat_le 15 (length d)) ≡ true
 own_one d long =
     let size : nat_le 15 (length d) ≡ true = grind (arith, nat_tests, long) in
-    and_of (pointwise nat_eq d d) (nat_le 15 (length d)) (nat_list_eq_equiv.refl d) size
+    and_from (pointwise nat_eq d d) (nat_le 15 (length d)) (nat_list_eq_equiv.refl d) size
 
 -- those that may be read are among these
 abbrev pub AreTraced : List (List ℕ) → List (List ℕ) → Type 0
@@ -119,10 +93,6 @@ sends_append (sets.Lost id facts ∷ xs) ys = sends_append xs ys
 pub all_back : (P : List ℕ → Type 0) (xs ys : List (List ℕ)) → AllByRecursion P (xs ++ ys) → AllByRecursion P ys
 all_back P [] ys a = a
 all_back P (x ∷ xs) ys a = all_back P xs ys a.1
-
-pub all_both : {A : Type 0} (P : A → Type 0) (xs ys : List A) → AllByRecursion P xs → AllByRecursion P ys → AllByRecursion P (xs ++ ys)
-all_both P [] ys a b = b
-all_both P (x ∷ xs) ys a b = (a.0, all_both P xs ys a.1 b)
 
 -- ---- one hop on
 
@@ -163,15 +133,15 @@ hop_is old new h long =
     let second : pointwise nat_eq (drop 15 new) (drop 15 old) ≡ true = ap (λ xs. pointwise nat_eq xs (drop 15 old)) back ∙ nat_list_eq_equiv.refl (drop 15 old) in
     let copy : is_copy new old ≡ true = all_true _ _ _ _ first second size2 size in
     let ttl : nat_eq (ttl_of new + 1) (ttl_of old) ≡ true = (let e = h.ttl in grind (arith, nat_tests, e)) in
-    and_of (is_copy new old) (nat_eq (ttl_of new + 1) (ttl_of old)) copy ttl
+    and_from (is_copy new old) (nat_eq (ttl_of new + 1) (ttl_of old)) copy ttl
 
 -- what came to a node is passed on by it
 pub passed_on : (borne : List Borne) (own : Callsign) (old new : List ℕ) → is_hop old new ≡ true → is_borne borne own old ≡ true → is_passed borne own new ≡ true
 passed_on [] own old new h e = absurd (cc e)
 passed_on (b ∷ bs) own old new h e =
     or_both (same_call b.to own && pointwise nat_eq b.datagram old) (is_borne bs own old) (same_call b.to own && is_hop b.datagram new) (is_passed bs own new)
-    (λ f. and_of (same_call b.to own) (is_hop b.datagram new) (and_left (same_call b.to own) _ f)
-    (ap (λ d. is_hop d new) (same_list b.datagram old (and_right (same_call b.to own) _ f)) ∙ h))
+    (λ f. and_from (same_call b.to own) (is_hop b.datagram new) (and_left (same_call b.to own) _ f)
+    (ap (λ d. is_hop d new) (same_letters b.datagram old (and_right (same_call b.to own) _ f)) ∙ h))
     (passed_on bs own old new h) e
 
 -- ---- what can be read as a datagram has a head's octets

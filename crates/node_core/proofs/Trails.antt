@@ -3,6 +3,7 @@ use Rattle.std.proofs.Common.{◌≡◌, ◌∙◌, ◌≤◌, ℕ, refl, sym, a
 use Rattle.std.specs.Prelude.{Bool, true, ◌==◌, ◌⊎◌, not, nat_eq}
 use Rattle.std.specs.List.{AllByRecursion}
 use Rattle.radio_base.specs.declared.payload.Payload.{Payload}
+use Rattle.radio_base.proofs.Each.{each_append}
 use Rattle.ax_address.specs.Callsign.{Callsign}
 use Rattle.ax_link.specs.Bounds.{Has}
 use Rattle.circuit_table.specs.Pumps.{runs}
@@ -12,13 +13,15 @@ use Rattle.link_table.specs.Laws.{Carries, CarriesByWeaker, FrameHolds, goes_to}
 use Rattle.link_table.specs.Reaching.{IsCall, Reaches}
 use Rattle.link_table.specs.Table.{Table}
 use Rattle.link_table.specs.declared.written.Written.{Written}
+use Rattle.link_table.proofs.Reports.{or_both}
+use Rattle.link_table.proofs.Widening.{or_map}
 use Rattle.node_core.specs.Broadcasts.{is_broadcast}
 use Rattle.node_core.specs.Carried.{Borne, CarriesTraced, IsAloft, IsCarried, IsOfNode, NamesCall, Place, WasBorne, brings_traced, is_aloft, is_borne, is_of_node, is_passed, is_sent, offers_traced, sends_in, with_borne}
 use Rattle.node_core.specs.Runs.{circuits_told}
-use Rattle.node_turns.specs.States.{Entry, Settings, State}
+use Rattle.node_model.specs.States.{Entry, Settings, State}
 use Rattle.node_core.proofs.Coming as coming
 use Rattle.node_core.proofs.Inputs.{IsInput, set_of_both, told_of_both}
-use Rattle.node_core.proofs.Tracing.{all_behind, all_both, all_more, borne_behind, borne_more, or_both, or_map, passed_more, sends_append, sent_more}
+use Rattle.node_core.proofs.Tracing.{all_behind, all_more, borne_behind, borne_more, passed_more, sends_append, sent_more}
 
 -- ---- of more that were sent, and more in the air
 
@@ -126,7 +129,7 @@ module _ (here : Place) where
       record {
         inputs = t.inputs ++ u.inputs;
         more = t.more ++ u.more;
-        are = all_both IsInput t.inputs u.inputs t.are u.are;
+        are = each_append IsInput t.inputs u.inputs t.are u.are;
         grew = u.grew ∙ (ap (λ (es : List Entry). es ++ u.more) t.grew ∙ append_assoc a.entries t.more u.more);
         set = u.set ∙ (ap (λ (s : SetState). (runs u.inputs s).set) t.set ∙ sym (set_of_both t.inputs u.inputs a.set.set));
         given =
@@ -139,7 +142,7 @@ module _ (here : Place) where
             ∙ (ap (λ (s : SetState). a.set.untold ++ (first.told ++ (runs u.inputs s).told)) t.set
             ∙ ap (λ (ts : List CircuitTold). a.set.untold ++ ts) (sym (told_of_both t.inputs u.inputs a.set.set))))))));
         settings = u.settings ∙ t.settings;
-        come = all_both (WasBorne here) t.inputs u.inputs t.come u.come;
+        come = each_append (WasBorne here) t.inputs u.inputs t.come u.come;
         carries = subst (λ ss. CarriesTraced here ss c)
             (step_sends sent first.told (runs u.inputs b.set.set).told
             ∙ (ap (λ (s : SetState). sent ++ sends_in (first.told ++ (runs u.inputs s).told)) t.set ∙ ap (λ ts. sent ++ sends_in ts) (sym (told_of_both t.inputs u.inputs a.set.set))))
@@ -191,7 +194,7 @@ module _ (here : Place) where
             call = subst (λ (y : Settings). (y.call ≡ here.own) × IsCall here.own) (sym k) x.call;
             untold =
                 subst (λ ds. AllByRecursion (λ (d : List ℕ). 15 ≤ length d → is_sent (sent ++ sends_in ts) d ≡ true) ds) (sym (ap sends_in u ∙ sends_append n.set.untold ts))
-                (all_both (λ (d : List ℕ). 15 ≤ length d → is_sent (sent ++ sends_in ts) d ≡ true) (sends_in n.set.untold) (sends_in ts)
+                (each_append (λ (d : List ℕ). 15 ≤ length d → is_sent (sent ++ sends_in ts) d ≡ true) (sends_in n.set.untold) (sends_in ts)
                 (all_more sent (sends_in ts) (sends_in n.set.untold) x.untold) (all_behind sent (sends_in ts)));
           };
         }

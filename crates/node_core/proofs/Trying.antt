@@ -14,16 +14,16 @@ use Rattle.circuit_table.specs.declared.refusal.ConnectRefusal.{ConnectRefusal}
 use Rattle.circuit_table.specs.declared.refusal.ConnectRefusal.TheVariants as connecting
 use Rattle.link_table.specs.Reaching.{IsCall}
 use Rattle.node_prompt.specs.Replies as texts
-use Rattle.node_turns.specs.declared.reply.Reply.{Reply}
-use Rattle.node_turns.specs.declared.stage.Stage.TheVariants.{AtPrompt}
-use Rattle.node_turns.specs.Asking as asking
-use Rattle.node_turns.specs.Bridging as bridging
-use Rattle.node_turns.specs.Links as circuits
+use Rattle.node_model.specs.declared.reply.Reply.{Reply}
+use Rattle.node_model.specs.declared.stage.Stage.TheVariants.{AtPrompt}
+use Rattle.node_model.specs.Asking as asking
+use Rattle.node_model.specs.Bridging as bridging
+use Rattle.node_model.specs.Links as circuits
 use Rattle.node_core.specs.Runs.{MadeFrom}
-use Rattle.node_turns.specs.Sessions.{Session}
-use Rattle.node_turns.specs.States.{State, at_set, next_hop}
-use Rattle.node_turns.specs.Users as users
-use Rattle.node_turns.specs.Users.{at_session, change_if, session_at}
+use Rattle.node_model.specs.Sessions.{Session}
+use Rattle.node_model.specs.States.{State, at_set, next_hop}
+use Rattle.node_model.specs.Users as users
+use Rattle.node_model.specs.Users.{at_session, change_if, session_at}
 use Rattle.node_core.proofs.Fine.{Fine, goes_on, pumped, said}
 use Rattle.node_core.proofs.Given.{Given, given_tries}
 use Rattle.node_core.proofs.Holders.{Any, AreOpen, Keeps, connects_keeps, none_closing}

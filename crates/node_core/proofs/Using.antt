@@ -15,11 +15,11 @@ use Rattle.link_table.specs.Table.{Table}
 use Rattle.link_table.specs.declared.text_refusal.TextRefusal.{TextRefusal}
 use Rattle.l3_datagram.specs.Routers.{Routing}
 use Rattle.node_core.specs.declared.station.Station.{Station}
-use Rattle.node_turns.specs.Links as links
+use Rattle.node_model.specs.Links as links
 use Rattle.node_core.specs.Going.{HoldsTold, StandsTold}
 use Rattle.node_core.specs.Standing.{Holds, IsTold}
-use Rattle.node_turns.specs.States.{State, at_links, at_set}
-use Rattle.node_turns.specs.Users as users
+use Rattle.node_model.specs.States.{State, at_links, at_set}
+use Rattle.node_model.specs.Users as users
 use Rattle.node_core.proofs.Dropping.{given_some}
 use Rattle.node_core.proofs.Holding.{links_go, set_steps, set_unchanged, with_carrier}
 use Rattle.node_core.proofs.Idle.{take_nothing, told_is_drained}

@@ -1,34 +1,35 @@
 -- What waits when the users were served and nothing could be done waits for room, and to serve them again does nothing.
 use Rattle.std.proofs.Common.{◌≡◌, ◌<◌, ◌+◌, ◌∙◌, ℕ, suc, refl, sym, ap, subst, arith, length, List, [], ◌∷◌, ◌++◌, slice_get}
 use Rattle.std.specs.List.{AllByRecursion}
-use Rattle.std.specs.Prelude.{Bool, true, false, not, ◌||◌, ◌&&◌, filter, is_none, is_some, nat_eq, nat_le, nat_lt, if◌then◌else◌, Option, Some, None}
-use Rattle.std.specs.Cmp.Lexicographic.{pointwise}
-use Rattle.std.proofs.lemmas.Bool.Decides.{nat_tests}
+use Rattle.std.specs.Prelude.{Bool, true, false, not, ◌||◌, ◌&&◌, filter, is_none, is_some, nat_le, nat_lt, if◌then◌else◌, Option, Some, None}
+use Rattle.std.proofs.lemmas.Bool.{or_parts, not-true}
+use Rattle.std.proofs.Math.Bool.{or-true}
 use Rattle.ax_address.specs.Callsign.{Callsign, same_call}
+use Rattle.ax_address.proofs.SameCalls.{call_refl}
 use Rattle.circuit_table.specs.CircuitSets.{partner_at}
 use Rattle.circuit_table.specs.Pumps.{TellsLess}
 use Rattle.link_table.specs.Kept.{OffersLeave, TakesLower}
-use Rattle.node_turns.specs.declared.circuit.Circuit.{Circuit}
-use Rattle.node_turns.specs.declared.reply.Reply.{Reply}
-use Rattle.node_turns.specs.declared.stage.Stage.{Stage}
-use Rattle.node_turns.specs.declared.stage.Stage.TheVariants.{AtPrompt, Trying, Failed, Connected}
-use Rattle.node_turns.specs.declared.user.User.{User}
-use Rattle.node_turns.specs.declared.user.User.TheVariants.{AtEnd, AtLink}
-use Rattle.node_turns.specs.Asking as asking
-use Rattle.node_turns.specs.Bridging as bridging
-use Rattle.node_turns.specs.Links as links
-use Rattle.node_turns.specs.Pumping.{at_router}
-use Rattle.node_turns.specs.Serving as serving
-use Rattle.node_turns.specs.Sessions as sessions
-use Rattle.node_turns.specs.Sessions.{Session, circuit_of}
-use Rattle.node_turns.specs.States.{State}
-use Rattle.node_turns.specs.Turns.{Turn, done, idle, or_else}
-use Rattle.node_turns.specs.Users as users
-use Rattle.node_turns.specs.Users.{at_session, session_at}
+use Rattle.node_model.specs.declared.circuit.Circuit.{Circuit}
+use Rattle.node_model.specs.declared.reply.Reply.{Reply}
+use Rattle.node_model.specs.declared.stage.Stage.{Stage}
+use Rattle.node_model.specs.declared.stage.Stage.TheVariants.{AtPrompt, Trying, Failed, Connected}
+use Rattle.node_model.specs.declared.user.User.{User}
+use Rattle.node_model.specs.declared.user.User.TheVariants.{AtEnd, AtLink}
+use Rattle.node_model.specs.Asking as asking
+use Rattle.node_model.specs.Bridging as bridging
+use Rattle.node_model.specs.Links as links
+use Rattle.node_model.specs.Pumping.{at_router}
+use Rattle.node_model.specs.Serving as serving
+use Rattle.node_model.specs.Sessions as sessions
+use Rattle.node_model.specs.Sessions.{Session, circuit_of}
+use Rattle.node_model.specs.States.{State}
+use Rattle.node_model.specs.Turns.{Turn, done, idle, or_else}
+use Rattle.node_model.specs.Users as users
+use Rattle.node_model.specs.Users.{at_session, session_at}
 use Rattle.node_core.specs.Waits.{WaitsForRoom, has_message, has_text, has_text_at}
-use Rattle.node_turns.proofs.Falling as falling
-use Rattle.node_turns.proofs.Falling.{IsPumped, pumps_alike}
-use Rattle.node_turns.proofs.Lowering as lowering
+use Rattle.node_model.proofs.Falling as falling
+use Rattle.node_model.proofs.Falling.{IsPumped, pumps_alike}
+use Rattle.node_model.proofs.Lowering as lowering
 
 -- ---- whether something is done
 
@@ -227,17 +228,6 @@ in_words n s t over = record {
 
 -- ---- links with a text have a session
 
-same_bytes : (xs : List ℕ) → pointwise nat_eq xs xs ≡ true
-same_bytes [] = refl
-same_bytes (x ∷ xs) = let e : nat_eq x x ≡ true = grind (arith, nat_tests) in ap (λ b. b && pointwise nat_eq xs xs) e ∙ same_bytes xs
-
-call_itself : (c : Callsign) → same_call c c ≡ true
-call_itself c = let e : nat_eq c.ssid c.ssid ≡ true = grind (arith, nat_tests) in ap (λ b. b && nat_eq c.ssid c.ssid) (same_bytes c.letters) ∙ e
-
-or_true : (a : Bool) → (a || true) ≡ true
-or_true true = refl
-or_true false = refl
-
 pushed : (peer : Callsign) (ss : List Session) (x : Session) → serving.is_served_link peer ss ≡ true → serving.is_served_link peer (ss ++ x ∷ []) ≡ true
 pushed peer [] x e = absurd (cc e)
 pushed peer (s ∷ ss) x e = by (serving.serves_link peer s) e (pushed peer ss x)
@@ -247,8 +237,8 @@ pushed peer (s ∷ ss) x e = by (serving.serves_link peer s) e (pushed peer ss x
     by false f rest = rest f
 
 pushed_here : (peer : Callsign) (ss : List Session) → serving.is_served_link peer (ss ++ sessions.new_session (AtLink peer) ∷ []) ≡ true
-pushed_here peer [] = ap (λ b. (b && true) || false) (call_itself peer)
-pushed_here peer (s ∷ ss) = ap (λ b. serving.serves_link peer s || b) (pushed_here peer ss) ∙ or_true (serving.serves_link peer s)
+pushed_here peer [] = ap (λ b. (b && true) || false) (call_refl peer)
+pushed_here peer (s ∷ ss) = ap (λ b. serving.serves_link peer s || b) (pushed_here peer ss) ∙ or-true (serving.serves_link peer s)
 
 greet_keeps : (b : Bool) (peer new : Callsign) (ss : List Session) → serving.is_served_link peer ss ≡ true → serving.is_served_link peer (serving.greet_link b new ss) ≡ true
 greet_keeps b peer new ss e = by (serving.is_served_link new ss) b
@@ -333,10 +323,6 @@ all_kept test (s ∷ ss) a = by (test s) a.0 (all_kept test ss a.1)
     by true e rest = ap (λ (xs : List Session). s ∷ xs) rest
     by false e rest = absurd (cc e)
 
-not_true : (a : Bool) → not a ≡ true → a ≡ false
-not_true true e = absurd (cc e)
-not_true false e = refl
-
 -- ---- all of them
 
 -- these sessions stand from a place on
@@ -359,10 +345,6 @@ or_did first next n idle = by (first n).did refl
     by true e = e
     by false e = ap (λ (m : State). (next m).did) (idle e)
 
-none_of : (a b : Bool) → (a || b) ≡ false → (a ≡ false) × (b ≡ false)
-none_of true b e = absurd (cc e)
-none_of false b e = (refl, e)
-
 module _ (offers : OffersLeave) (takes : TakesLower) (less : TellsLess) where
   abbrev from_message : ℕ → ℕ → State → Turn State
   from_message now nth = or_else (bridging.give_message now nth) (or_else (serving.take_up now nth) (bridging.close_circuit now nth))
@@ -377,9 +359,9 @@ module _ (offers : OffersLeave) (takes : TakesLower) (less : TellsLess) where
 
   idles : (now nth : ℕ) (n : State) → (serving.serve_once now nth n).did ≡ false → Idles now nth n
   idles now nth n e =
-      let a = none_of (bridging.give_reply now nth n).did _ (sym (once_did now nth n) ∙ e) in
-      let b = none_of (bridging.give_message now nth n).did _ a.1 in
-      let c = none_of (serving.take_up now nth n).did (bridging.close_circuit now nth n).did b.1 in
+      let a = or_parts (bridging.give_reply now nth n).did _ (sym (once_did now nth n) ∙ e) in
+      let b = or_parts (bridging.give_message now nth n).did _ a.1 in
+      let c = or_parts (serving.take_up now nth n).did (bridging.close_circuit now nth n).did b.1 in
       record { reply = a.0; message = b.0; up = c.0; close = c.1 }
 
   none_done : (now nth : ℕ) (n : State) → Idles now nth n → (serving.serve_once now nth n).did ≡ false
@@ -389,7 +371,7 @@ module _ (offers : OffersLeave) (takes : TakesLower) (less : TellsLess) where
   each_still now nth n [] p at e = tt
   each_still now nth n (x ∷ xs) p at e =
       let t : Turn State = serving.serve now nth n in
-      let both = none_of t.did (serving.serve_each now (suc nth) (length xs) t.after).did e in
+      let both = or_parts t.did (serving.serve_each now (suc nth) (length xs) t.after).did e in
       let same : t.after ≡ n = (falling.served offers takes less now nth n).idle both.0 p in
       let rest = subst (λ (m : State). (serving.serve_each now (suc nth) (length xs) m).did ≡ false) same both.1 in
       (still_of now nth n x (here nth x xs n.sessions at) (idles now nth n both.0), each_still now (suc nth) n xs p (next_place nth x xs n.sessions at) rest)
@@ -441,7 +423,7 @@ module _ (offers : OffersLeave) (takes : TakesLower) (less : TellsLess) where
       record {
         served = stays now n p served stills on;
         greeted = served;
-        sessions = kept_in (Still g) (WaitsForRoom n) (goes_on g) (λ s e t. in_words n s (still_with g n.sessions s t) (over_same g n.sessions s ∙ not_true (serving.is_over g s) e)) g.sessions still;
+        sessions = kept_in (Still g) (WaitsForRoom n) (goes_on g) (λ s e t. in_words n s (still_with g n.sessions s t) (over_same g n.sessions s ∙ not-true (serving.is_over g s) e)) g.sessions still;
       }
 
   -- what is left of a node of which all was told when the users were served and nothing could be done

@@ -17,17 +17,17 @@ use Rattle.route_table.specs.Log as logs
 use Rattle.route_table.specs.Log.{Item}
 use Rattle.node_core.specs.Acts as acts
 use Rattle.node_core.specs.Acts.{Answered, UserAct}
-use Rattle.node_turns.specs.Links as links
-use Rattle.node_turns.specs.Pumping as p
+use Rattle.node_model.specs.Links as links
+use Rattle.node_model.specs.Pumping as p
 use Rattle.node_core.specs.Receiving as receiving
 use Rattle.node_core.specs.Broadcasts as rounds
 use Rattle.node_core.specs.Runs.{IsUserAct, write_in}
-use Rattle.node_turns.specs.Serving.{serve_sessions}
-use Rattle.node_turns.specs.Serving as s
-use Rattle.node_turns.specs.States.{State, at_links, at_set, next_hop, with_items}
+use Rattle.node_model.specs.Serving.{serve_sessions}
+use Rattle.node_model.specs.Serving as s
+use Rattle.node_model.specs.States.{State, at_links, at_set, next_hop, with_items}
 use Rattle.node_core.proofs.Served.{IsAsking, Serves, served_on}
 use Rattle.node_core.specs.Inputs.{after_input, turns_settle}
-use Rattle.node_turns.proofs.Turns.{kept, settled_kept}
+use Rattle.node_model.proofs.Turns.{kept, settled_kept}
 
 -- beside what is done for users: the notices of the links, rounds, time that passes, locks, and links that fail
 pub record Others (P : State → State → Type 0) (Q : Item → Type 0) : Type 0 where

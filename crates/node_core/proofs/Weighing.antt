@@ -9,13 +9,13 @@ use Rattle.circuit_table.specs.Standing.{EachStands, Here, Keeps, Past}
 use Rattle.circuit_table.specs.declared.holder.Holder.{Holder}
 use Rattle.link_table.specs.Kept.{CountsPayloads, kept_payloads}
 use Rattle.node_core.specs.declared.station.Station.{Station}
-use Rattle.node_turns.specs.Links as links
-use Rattle.node_turns.specs.Pumping.{pending}
-use Rattle.node_turns.specs.Sessions.{Session, bare}
-use Rattle.node_turns.specs.Serving.{has_some}
+use Rattle.node_model.specs.Links as links
+use Rattle.node_model.specs.Pumping.{pending}
+use Rattle.node_model.specs.Sessions.{Session, bare}
+use Rattle.node_model.specs.Serving.{has_some}
 use Rattle.node_core.specs.Standing.{Holds}
-use Rattle.node_turns.specs.States.{State}
-use Rattle.node_turns.proofs.Weights.{end_messages, filled, is_among, left, messages, messages_but, most_at, one_unless, sessions_work, text_cost}
+use Rattle.node_model.specs.States.{State}
+use Rattle.node_model.proofs.Weights.{end_messages, filled, is_among, left, messages, messages_but, most_at, one_unless, sessions_work, text_cost}
 
 -- ---- messages at the ends that are held
 

@@ -19,17 +19,18 @@ use Rattle.circuit_table.specs.declared.refusal.SetRefusal.TheVariants as set_re
 use Rattle.circuit_l4.specs.Opening.{requesting}
 use Rattle.circuit_l4.specs.declared.refusal.WriteRefusal.{WriteRefusal}
 use Rattle.radio_base.specs.declared.modulus.TheConstants.{COUNT_MAX}
-use Rattle.node_turns.specs.Asking as asking
-use Rattle.node_turns.specs.declared.circuit.Circuit.{Circuit}
-use Rattle.node_turns.specs.declared.stage.Stage.{Stage}
-use Rattle.node_turns.specs.declared.stage.Stage.TheVariants.{AtPrompt, Trying, Failed, Connected}
-use Rattle.node_turns.specs.declared.user.User.{User}
-use Rattle.node_turns.specs.Bridging as bridging
-use Rattle.node_turns.specs.Serving.{is_circuit}
-use Rattle.node_turns.specs.Sessions as sessions
-use Rattle.node_turns.specs.Sessions.{Bridge, Session, circuit_of}
-use Rattle.node_turns.specs.Users as users
-use Rattle.node_turns.specs.Users.{Outcome, Taken, Exhausts, Unheard, Refused}
+use Rattle.ax_address.proofs.SameNumbers.{nat_apart}
+use Rattle.node_model.specs.Asking as asking
+use Rattle.node_model.specs.declared.circuit.Circuit.{Circuit}
+use Rattle.node_model.specs.declared.stage.Stage.{Stage}
+use Rattle.node_model.specs.declared.stage.Stage.TheVariants.{AtPrompt, Trying, Failed, Connected}
+use Rattle.node_model.specs.declared.user.User.{User}
+use Rattle.node_model.specs.Bridging as bridging
+use Rattle.node_model.specs.Serving.{is_circuit}
+use Rattle.node_model.specs.Sessions as sessions
+use Rattle.node_model.specs.Sessions.{Bridge, Session, circuit_of}
+use Rattle.node_model.specs.Users as users
+use Rattle.node_model.specs.Users.{Outcome, Taken, Exhausts, Unheard, Refused}
 use Rattle.node_core.proofs.Ends as ends_of
 use Rattle.node_core.proofs.Ends.{In, Once, number_of, end_here, is_end, other_end}
 use Rattle.node_core.proofs.Holders.{Alive, Below, calls, comes, connects, others_stay}
@@ -151,14 +152,6 @@ at_stage old new b d (Connected c) e g f w =
 pub written_later : (old new : SetState) → KeepsWrote old new → Once old.ends → (ss : List Session) → Every (Written old) ss → Every (Written new) ss
 written_later old new k o [] e = tt
 written_later old new k o (x ∷ ss) e = (record { all = at_stage old new x.bridge x.bridge x.stage refl refl (λ c ms gs h w. k c.id ms gs o w) e.0.all }, written_later old new k o ss e.1)
-
--- as there is a call of another end
-pub nat_apart : (a b : ℕ) → nat_eq a b ≡ false → nat_eq b a ≡ false
-nat_apart a b e = by (nat_eq b a) refl
-  where
-    by : (c : Bool) → nat_eq b a ≡ c → nat_eq b a ≡ false
-    by true f = let same : b ≡ a = grind (arith, nat_tests, f) in absurd (grind (arith, nat_tests, same, e))
-    by false f = f
 
 pub written_other : (set : SetState) (call : Call) (now at : ℕ) (x : Session) → NotIts at x → Written set x → Written (s.set_step set (Calls at call now)).set x
 written_other set call now at x other w = record {

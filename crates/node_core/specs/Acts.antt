@@ -21,11 +21,11 @@ use Rattle.route_table.specs.Log.{Item}
 use Rattle.route_table.specs.Table.{usable}
 use Rattle.route_table.specs.declared.refusal.LockRefusal.{LockRefusal}
 use Rattle.route_table.specs.declared.refusal.LockRefusal.TheVariants as locking
-use Rattle.node_turns.specs.Links as circuits
-use Rattle.node_turns.specs.Links.{break_link}
-use Rattle.node_turns.specs.States.{State, at_links, at_set, next_hop, with_items}
-use Rattle.node_turns.specs.Serving.{is_served}
-use Rattle.node_turns.specs.Users.{facts}
+use Rattle.node_model.specs.Links as circuits
+use Rattle.node_model.specs.Links.{break_link}
+use Rattle.node_model.specs.States.{State, at_links, at_set, next_hop, with_items}
+use Rattle.node_model.specs.Serving.{is_served}
+use Rattle.node_model.specs.Users.{facts}
 use Rattle.node_core.specs.declared.acts.ActDone.{ActDone}
 use Rattle.node_core.specs.declared.acts.ActDone.TheVariants.{Done, Made, Took}
 use Rattle.node_core.specs.declared.acts.ActRefusal.{ActRefusal}

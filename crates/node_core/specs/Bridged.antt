@@ -10,17 +10,17 @@ use Rattle.circuit_table.specs.Sets.{Holder}
 use Rattle.link_table.specs.Calls.{with_path}
 use Rattle.link_table.specs.Reaching.{IsCall}
 use Rattle.node_core.specs.declared.config.NodeConfig.{NodeConfig}
-use Rattle.node_turns.specs.declared.circuit.Circuit.{Circuit}
-use Rattle.node_turns.specs.declared.stage.Stage.{Stage}
-use Rattle.node_turns.specs.declared.stage.Stage.TheVariants.{AtPrompt, Trying, Failed, Connected}
+use Rattle.node_model.specs.declared.circuit.Circuit.{Circuit}
+use Rattle.node_model.specs.declared.stage.Stage.{Stage}
+use Rattle.node_model.specs.declared.stage.Stage.TheVariants.{AtPrompt, Trying, Failed, Connected}
 use Rattle.node_core.specs.Configs.{node_of}
 use Rattle.node_core.specs.Inputs.{after_act, after_bytes, after_tick}
 use Rattle.node_core.specs.Qualities.{with_quality}
 use Rattle.node_core.specs.Runs.{IsUserAct}
-use Rattle.node_turns.specs.Sessions.{Bridge, Session, circuit_of, waits}
+use Rattle.node_model.specs.Sessions.{Bridge, Session, circuit_of, waits}
 use Rattle.node_core.specs.Acts.{UserAct}
-use Rattle.node_turns.specs.States.{NodeState, State, at_links, fetch_entry, fetch_frame}
-use Rattle.node_turns.specs.Users.{end_at, is_deaf}
+use Rattle.node_model.specs.States.{NodeState, State, at_links, fetch_entry, fetch_frame}
+use Rattle.node_model.specs.Users.{end_at, is_deaf}
 use Rattle.node_core.specs.Waits.{has_text}
 
 -- ---- one session

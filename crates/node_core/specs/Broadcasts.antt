@@ -11,16 +11,13 @@ use Rattle.ax_frame.specs.declared.control.Control.{Control}
 use Rattle.ax_frame.specs.declared.control.Control.TheVariants.{Ui}
 use Rattle.ax_frame.specs.Frames.{Frame, frame, frame_octets}
 use Rattle.link_table.specs.declared.written.Written.{Written}
-use Rattle.link_table.specs.declared.written.WrittenAs.TheVariants.{Modulo8}
+use Rattle.radio_base.specs.declared.modulus.LinkModulus.TheVariants.{Modulo8}
 use Rattle.nodes_broadcast.specs.Nodes.{Broadcast, nodes_octets}
+pub use Rattle.nodes_broadcast.specs.Nodes.{nodes_call}
 use Rattle.route_table.specs.Log.{Round}
 use Rattle.route_table.specs.Table.{to_broadcast}
-use Rattle.node_turns.specs.Links as links
-use Rattle.node_turns.specs.States.{State, at_links, at_set, put, with_items}
-
--- the call to which broadcasts go
-abbrev pub nodes_call : Callsign
-nodes_call = record { letters = padded (codes "NODES"); ssid = 0 }
+use Rattle.node_model.specs.Links as links
+use Rattle.node_model.specs.States.{State, at_links, at_set, put, with_items}
 
 -- the PID of NET/ROM
 abbrev pub netrom_pid : ℕ
@@ -63,7 +60,7 @@ abbrev pub round_frame : Callsign → Alias → List Entry → ℕ → Written
 round_frame c alias es nth =
     record {
       octets = record { items = broadcast_octets c (record { alias = alias; entries = entries_of_frame es nth }) };
-      how = Modulo8;
+      modulus = Some Modulo8;
     }
 
 -- the frames that broadcast these entries

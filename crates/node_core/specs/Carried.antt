@@ -22,17 +22,17 @@ use Rattle.nodes_broadcast.specs.Nodes.{Broadcast}
 use Rattle.arrayvec.specs.ArrayVec.{ArrayVec}
 use Rattle.ax_address.specs.declared.address.Address.{Address}
 use Rattle.link_table.specs.Calls.{with_path}
-use Rattle.link_table.specs.Standing.{width}
+use Rattle.radio_base.specs.Modulus.{extended_if, modulus_size}
 use Rattle.node_core.specs.declared.config.NodeConfig.{NodeConfig}
 use Rattle.node_core.specs.Broadcasts.{broadcast_octets, has_netrom_pid, is_broadcast}
 use Rattle.node_core.specs.Configs.{start_of}
-use Rattle.node_turns.specs.Links.{all_fetched}
+use Rattle.node_model.specs.Links.{all_fetched}
 use Rattle.node_core.specs.Inputs.{after_act, after_bytes, after_tick, new_items}
 use Rattle.node_core.specs.Qualities.{with_quality}
 use Rattle.node_core.specs.Runs.{IsUserAct, RunsOn}
 use Rattle.node_core.specs.Standing.{IsTold}
-use Rattle.node_turns.specs.States as states
-use Rattle.node_turns.specs.States.{NodeState, State, at_links}
+use Rattle.node_model.specs.States as states
+use Rattle.node_model.specs.States.{NodeState, State, at_links}
 use Rattle.node_core.specs.Acts as acts
 use Rattle.node_core.specs.Acts.{UserAct}
 
@@ -206,7 +206,7 @@ pub record CarriedFurther : Type 0 where
   pub told : (here : Place) (sent : List (List ℕ)) (n : State) → CarriesTraced here sent n → CarriesTraced here sent (record n { entries = [] })
   pub broadcasts : (size : ℕ) (borne : List Borne) (own : Callsign) (b : Broadcast) → IsCall own → IsAloft size borne (broadcast_octets own b)
   pub starts : (here : Place) (sent : List (List ℕ)) (hosts : Bool) (c : NodeConfig) → c.call ≡ here.own → IsCall c.call
-      → (here.size ≡ 8) ⊎ (here.size ≡ 128) → width c.modulo128 ≡ here.size
+      → (here.size ≡ 8) ⊎ (here.size ≡ 128) → modulus_size (extended_if c.modulo128) ≡ here.size
       → CarriesTraced here sent (start_of hosts c)
   pub paths : (here : Place) (sent : List (List ℕ)) (peer : Callsign) (path : ArrayVec Address) (n : State) → IsWay path → CarriesTraced here sent n
       → CarriesTraced here sent (at_links (with_path peer path) n)

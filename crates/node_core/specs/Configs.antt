@@ -6,11 +6,11 @@ use Rattle.circuit_table.specs.Pairs.{IsPair}
 use Rattle.circuit_table.specs.Pumps.{at_rest}
 use Rattle.circuit_table.specs.Sets as sets
 use Rattle.link_table.specs.Calls.{no_links}
-use Rattle.link_table.specs.Standing.{width}
+use Rattle.radio_base.specs.Modulus.{extended_if, modulus_size}
 use Rattle.radio_base.specs.declared.modulus.TheConstants.{COUNT_MAX}
 use Rattle.route_table.specs.Held.{AreRules}
 use Rattle.node_core.specs.declared.config.NodeConfig.{NodeConfig}
-use Rattle.node_turns.specs.States.{NodeState, State}
+use Rattle.node_model.specs.States.{NodeState, State}
 
 -- what each part asks of its settings
 pub record IsConfig (c : NodeConfig) : Type 0 where
@@ -39,7 +39,7 @@ start_of hosts c =
         interval = c.interval;
       };
       log = [];
-      links = no_links c.call c.links (width c.modulo128) c.link;
+      links = no_links c.call c.links (modulus_size (extended_if c.modulo128)) c.link;
       set = at_rest (sets.new_set c.call c.ttl c.call c.ends c.pair c.first);
       next_round = None;
       own = [];

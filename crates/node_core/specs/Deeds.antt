@@ -14,17 +14,17 @@ use Rattle.node_core.specs.Configs.{node_of}
 use Rattle.node_core.specs.Receiving.{take_item}
 use Rattle.node_core.specs.declared.config.NodeConfig.{NodeConfig}
 use Rattle.link_table.specs.Reaching.{IsCall}
-use Rattle.node_turns.specs.declared.circuit.Circuit.{Circuit}
-use Rattle.node_turns.specs.declared.stage.Stage.{Stage}
-use Rattle.node_turns.specs.declared.stage.Stage.TheVariants.{AtPrompt, Trying, Connected}
-use Rattle.node_turns.specs.declared.user.User.{User}
-use Rattle.node_turns.specs.declared.user.User.TheVariants.{AtEnd, AtLink}
-use Rattle.node_turns.specs.Links as links
-use Rattle.node_turns.specs.Pumping.{pump}
-use Rattle.node_turns.specs.Serving.{drop_over, drop_texts, enter_notices, greet_links, is_at_end, serve}
-use Rattle.node_turns.specs.Sessions.{Session, circuit_of, is_at_link, waits}
-use Rattle.node_turns.specs.States.{State, at_links, at_set}
-use Rattle.node_turns.specs.Users.{end_at, has_taken, session_at, write_answer}
+use Rattle.node_model.specs.declared.circuit.Circuit.{Circuit}
+use Rattle.node_model.specs.declared.stage.Stage.{Stage}
+use Rattle.node_model.specs.declared.stage.Stage.TheVariants.{AtPrompt, Trying, Connected}
+use Rattle.node_model.specs.declared.user.User.{User}
+use Rattle.node_model.specs.declared.user.User.TheVariants.{AtEnd, AtLink}
+use Rattle.node_model.specs.Links as links
+use Rattle.node_model.specs.Pumping.{pump}
+use Rattle.node_model.specs.Serving.{drop_over, drop_texts, enter_notices, greet_links, is_at_end, serve}
+use Rattle.node_model.specs.Sessions.{Session, circuit_of, is_at_link, waits}
+use Rattle.node_model.specs.States.{State, at_links, at_set}
+use Rattle.node_model.specs.Users.{end_at, has_taken, session_at, write_answer}
 
 -- ---- deeds
 

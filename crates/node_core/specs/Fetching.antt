@@ -1,7 +1,7 @@
 -- What is fetched of a node, until nothing waits. Own profile.
 use Rattle.std.specs.Prelude.{ℕ, zero, suc, ◌≡◌, [], drop, length}
-use Rattle.node_turns.specs.Links.{all_fetched}
-use Rattle.node_turns.specs.States.{State, fetch_entry, fetch_frame, frames}
+use Rattle.node_model.specs.Links.{all_fetched}
+use Rattle.node_model.specs.States.{State, fetch_entry, fetch_frame, frames}
 
 -- so many frames are fetched, or entries
 abbrev pub fetch_frames : ℕ → State → State

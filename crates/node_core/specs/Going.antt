@@ -1,25 +1,18 @@
 -- How a node's code goes on with the states that it stands for: words for the clauses of its own functions, which no public clause cites.
 use Rattle.std.specs.Prelude.{ℕ, ◌≡◌, Bool, true, false, slice_get, Result, Ok, Err}
 use Rattle.circuit_table.specs.CircuitSets.{Circuits, SetStands}
-use Rattle.kiss_framing.specs.Stream.{Item, Frame, Too_long}
-use Rattle.kiss_framing.specs.declared.item.KissItem.{KissItem}
-use Rattle.kiss_framing.specs.declared.item.KissItem.TheVariants as kiss
+pub use Rattle.kiss_framing.specs.Feeding.{item_of}
 use Rattle.link_table.specs.Standing.{TableView as Kept}
 use Rattle.node_core.specs.declared.acts.ActDone.{ActDone}
 use Rattle.node_core.specs.declared.acts.ActRefusal.{ActRefusal}
 use Rattle.node_core.specs.declared.acts.ActRefusal.TheVariants as refusal
 use Rattle.node_core.specs.declared.station.Station.{Station}
 use Rattle.node_core.specs.Acts.{Answered}
-use Rattle.node_turns.specs.Sessions.{Session}
+use Rattle.node_model.specs.Sessions.{Session}
 use Rattle.node_core.specs.Standing.{Holds, IsAnswer, IsTold}
-use Rattle.node_turns.specs.States.{State}
-use Rattle.node_turns.specs.Turns.{Turn}
-use Rattle.node_turns.specs.Users.{change_if}
-
--- a KISS item, as plain data
-abbrev pub item_of : KissItem → Item
-item_of (kiss.Frame port command payload) = Frame port command payload.now
-item_of kiss.TooLong = Too_long
+use Rattle.node_model.specs.States.{State}
+use Rattle.node_model.specs.Turns.{Turn}
+use Rattle.node_model.specs.Users.{change_if}
 
 -- Whatever state it stood for, it stands for the one after the step now.
 abbrev pub StationGoes : (State → State) → Station → Station → Type 0

@@ -4,13 +4,13 @@ use Rattle.std.specs.Prelude.{ℕ, min, List, [], ◌∷◌, ◌++◌, length, d
 use Rattle.kiss_framing.specs.Stream as kiss
 use Rattle.node_core.specs.declared.acts.ActDone.{ActDone}
 use Rattle.node_core.specs.declared.acts.ActRefusal.{ActRefusal}
-use Rattle.node_turns.specs.States.{NodeState, State}
-use Rattle.node_turns.specs.Serving.{turn}
+use Rattle.node_model.specs.States.{NodeState, State}
+use Rattle.node_model.specs.Serving.{turn}
 use Rattle.node_core.specs.Receiving.{take_item}
 use Rattle.node_core.specs.Broadcasts.{tick}
 use Rattle.node_core.specs.Acts.{Answered, do_act, UserAct}
-use Rattle.node_turns.specs.Turns.{Settled}
-use Rattle.node_turns.proofs.Settled.{turns_end}
+use Rattle.node_model.specs.Turns.{Settled}
+use Rattle.node_model.proofs.Settled.{turns_end}
 
 -- from each state turns settle, as is proved
 pub turns_settle : (now : ℕ) (n : State) → Settled (turn now) n

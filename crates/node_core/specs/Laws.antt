@@ -1,12 +1,12 @@
 -- What holds of every node.
 use Rattle.std.specs.Prelude.{ℕ, ◌≡◌, ◌↔◌, true, false, []}
 use Rattle.std.specs.List.{AllByRecursion}
-use Rattle.node_turns.specs.Links.{text_peers}
+use Rattle.node_model.specs.Links.{text_peers}
 use Rattle.node_core.specs.Inputs.{after_input}
-use Rattle.node_turns.specs.Pumping.{pending, tell_all, tell_turn}
-use Rattle.node_turns.specs.Serving.{is_served_link, drop_text, drop_texts, serve_users, turn}
-use Rattle.node_turns.specs.States.{State}
-use Rattle.node_turns.specs.Turns.{SettlesTo, Turn, idle}
+use Rattle.node_model.specs.Pumping.{pending, tell_all, tell_turn}
+use Rattle.node_model.specs.Serving.{is_served_link, drop_text, drop_texts, serve_users, turn}
+use Rattle.node_model.specs.States.{State}
+use Rattle.node_model.specs.Turns.{SettlesTo, Turn, idle}
 use Rattle.node_core.specs.Waits.{WaitsForRoom}
 
 -- nothing is left to be done: no notice is to be entered, nothing is to be told or routed, and to serve the users now does nothing. Where

@@ -5,7 +5,7 @@ use Rattle.indexmap.specs.IndexMap.{insert_entry}
 use Rattle.ax_address.specs.Callsign.{Callsign, same_call}
 use Rattle.node_core.specs.declared.quality_refusal.QualityRefusal.{QualityRefusal}
 use Rattle.node_core.specs.declared.quality_refusal.QualityRefusal.TheVariants.{Full, NoMemory}
-use Rattle.node_turns.specs.States.{State}
+use Rattle.node_model.specs.States.{State}
 
 -- the most neighbours that have one
 abbrev pub most_qualities : ℕ

@@ -1,38 +1,27 @@
 -- What a node does with a KISS item, before it settles (AX.25 2.2, section 3.12, and NET/ROM, Appendix B; what is dropped is this
 -- project's profile).
-use Rattle.std.specs.Prelude.{ℕ, ◌+◌, ◌*◌, Bool, true, false, ◌&&◌, ◌==◌, bit_or, nat_le, if◌then◌else◌, List, [], ◌∷◌, ◌++◌, length, slice_index, slice_set, unwrap_or, Result, Ok, Err}
-use Rattle.std.specs.List.{prefix_len}
+use Rattle.std.specs.Prelude.{ℕ, Bool, true, false, ◌&&◌, ◌==◌, nat_le, if◌then◌else◌, List, [], ◌∷◌, ◌++◌, length, unwrap_or, None, Result, Ok, Err}
 use Rattle.std.specs.Map.{lookup}
 use Rattle.ax_address.specs.Callsign.{Callsign, same_call}
 use Rattle.ax_address.specs.declared.address.Address.{Address}
 use Rattle.ax_frame.specs.declared.head.Head.{Head}
 use Rattle.ax_frame.specs.declared.frame.FrameRefusal.{FrameRefusal}
 use Rattle.ax_frame.specs.Frames.{Frame, read_head_at, read_at}
-use Rattle.digi_path.specs.Paths.{Action, For_me, Repeat, Not_yet, Heard, action, has_repeated}
+use Rattle.digi_path.specs.Paths.{Action, For_me, Repeat, Not_yet, Heard, action}
+pub use Rattle.digi_path.specs.Paths.{h_octet, repeated_octets}
 use Rattle.kiss_framing.specs.Stream as kiss
 use Rattle.link_table.specs.declared.written.Written.{Written}
-use Rattle.link_table.specs.declared.written.WrittenAs.TheVariants.{AsItCame}
+use Rattle.radio_base.specs.Modulus.{extended_if, modulus_size}
 use Rattle.nodes_broadcast.specs.declared.nodes.NodesRefusal.{NodesRefusal}
 use Rattle.nodes_broadcast.specs.Nodes.{Broadcast, nodes_at}
 use Rattle.route_table.specs.Log.{Item, broadcast}
 use Rattle.route_table.specs.Table.{usable}
 use Rattle.node_core.specs.Broadcasts.{is_broadcast}
-use Rattle.node_turns.specs.Links as links
-use Rattle.node_turns.specs.States.{Overflow, State, at_links, enter, put, with_items}
-
--- the octet of an address in which its H bit stands, by the repeater's number from 0: behind the two end addresses, of seven
--- octets each, the last one of its own
-abbrev pub h_octet : ℕ → ℕ
-h_octet nth = 14 + 7 * nth + 6
-
--- the same octets, with the H bit set of the first repeater that hasn't repeated the frame
-abbrev pub repeated_octets : List Address → List ℕ → List ℕ
-repeated_octets path octets =
-    let at = h_octet (prefix_len has_repeated path) in
-    slice_set octets at (bit_or (slice_index octets at) 0x80)
+use Rattle.node_model.specs.Links as links
+use Rattle.node_model.specs.States.{Overflow, State, at_links, enter, put, with_items}
 
 abbrev pub repeated_frame : List Address → List ℕ → Written
-repeated_frame path octets = record { octets = record { items = repeated_octets path octets }; how = AsItCame }
+repeated_frame path octets = record { octets = record { items = repeated_octets path octets }; modulus = None }
 
 -- how many usable routes the node would have with these items
 abbrev pub live_with : List Item → State → ℕ
@@ -65,9 +54,9 @@ take_frame now mine (Ok f) n =
     else if mine then at_links (links.arrive f now) n
     else n
 
--- it is read by the modulus of the link with its source
+-- it is read by the modulus of the link with its source, and where none stands modulo 8
 abbrev pub modulus_with : Callsign → State → ℕ
-modulus_with peer n = if links.is_128 peer n.links then 128 else 8
+modulus_with peer n = modulus_size (extended_if (links.is_128 peer n.links))
 
 abbrev pub take_by_path : ℕ → List ℕ → Head → Action → State → State
 take_by_path now octets h (Repeat path) n = put (repeated_frame h.path.items octets) n

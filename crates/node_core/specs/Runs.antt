@@ -11,7 +11,7 @@ use Rattle.node_core.specs.declared.acts.ActDone.{ActDone}
 use Rattle.node_core.specs.declared.acts.ActRefusal.{ActRefusal}
 use Rattle.node_core.specs.Inputs.{act_answer, after_act, after_bytes, after_tick, moment}
 use Rattle.node_core.specs.Standing.{IsTold}
-use Rattle.node_turns.specs.States.{Entry, NodeState, Of_link, Of_set, Overflow, State}
+use Rattle.node_model.specs.States.{Entry, NodeState, Of_link, Of_set, Overflow, State}
 use Rattle.node_core.specs.Acts.{UserAct, Connect, ConnectFor, OpenLink, Write}
 
 -- what is told of circuits in these entries, in order

@@ -7,7 +7,7 @@ use Rattle.node_core.specs.Bounds.{IsWithin, pairs_of}
 use Rattle.node_core.specs.Bridged.{AsksForCall, Input, after_all}
 use Rattle.node_core.specs.Configs.{node_of}
 use Rattle.node_core.specs.Standing.{Kept, NodeStands, IsDrained}
-use Rattle.node_turns.specs.States.{NodeState}
+use Rattle.node_model.specs.States.{NodeState}
 
 -- inputs have led to it, from the start of a node with a call on
 pub record IsReached (n : NodeState) : Type 0 where

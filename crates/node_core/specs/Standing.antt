@@ -7,8 +7,8 @@ use Rattle.circuit_table.specs.Pumps.{at_rest}
 use Rattle.circuit_table.specs.Standing.{event_told}
 use Rattle.link_table.specs.Standing.{TableView, TableStands, TableView as LinkTable}
 use Rattle.route_table.specs.Held.{StandsFor}
-use Rattle.node_turns.specs.Sessions.{bare}
-use Rattle.node_turns.specs.States.{Entry, Of_link, Of_set, Overflow, State, NodeState}
+use Rattle.node_model.specs.Sessions.{bare}
+use Rattle.node_model.specs.States.{Entry, Of_link, Of_set, Overflow, State, NodeState}
 use Rattle.kiss_framing.specs.Stream as kiss
 use Rattle.node_core.specs.declared.acts.ActDone.{ActDone}
 use Rattle.node_core.specs.declared.acts.ActRefusal.{ActRefusal}

@@ -1,16 +1,16 @@
 -- What waits after an input: only what the side that it goes to has no room for. Own profile.
 use Rattle.std.specs.Prelude.{ℕ, ◌≡◌, ◌<◌, Bool, true, false, not, ◌&&◌, ◌||◌, nat_lt, length, Some}
 use Rattle.circuit_table.specs.Standing as answers
-use Rattle.node_turns.specs.declared.circuit.Circuit.{Circuit}
-use Rattle.node_turns.specs.declared.stage.Stage.TheVariants.{AtPrompt, Connected}
-use Rattle.node_turns.specs.declared.user.User.{User}
-use Rattle.node_turns.specs.declared.user.User.TheVariants.{AtEnd, AtLink}
-use Rattle.node_turns.specs.Bridging.{may_close}
-use Rattle.node_turns.specs.Links as links
-use Rattle.node_turns.specs.Serving.{is_over}
-use Rattle.node_turns.specs.Sessions.{Session, circuit_of}
-use Rattle.node_turns.specs.States.{State}
-use Rattle.node_turns.specs.Users.{can_give, can_pass_on, end_at, end_has_room, has_taken}
+use Rattle.node_model.specs.declared.circuit.Circuit.{Circuit}
+use Rattle.node_model.specs.declared.stage.Stage.TheVariants.{AtPrompt, Connected}
+use Rattle.node_model.specs.declared.user.User.{User}
+use Rattle.node_model.specs.declared.user.User.TheVariants.{AtEnd, AtLink}
+use Rattle.node_model.specs.Bridging.{may_close}
+use Rattle.node_model.specs.Links as links
+use Rattle.node_model.specs.Serving.{is_over}
+use Rattle.node_model.specs.Sessions.{Session, circuit_of}
+use Rattle.node_model.specs.States.{State}
+use Rattle.node_model.specs.Users.{can_give, can_pass_on, end_at, end_has_room, has_taken}
 
 -- a message that came waits at an end
 abbrev pub has_message : ℕ → State → Bool

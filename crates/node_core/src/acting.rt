@@ -1,9 +1,9 @@
-//! What a user does at a node.
+//! What a user does at a node. Called by `node`.
 ghost use Rattle.std.specs.Prelude.{◌≡◌, OnOk};
 ghost use Rattle.route_table.specs.Log as logs;
 ghost use Rattle.node_core.specs.Acts as acts;
 ghost use Rattle.node_core.specs.Inputs as inputs;
-ghost use Rattle.node_turns.specs.States.{State};
+ghost use Rattle.node_model.specs.States.{State};
 
 use crate::acts::wants_memory;
 use crate::station::Station;

@@ -7,16 +7,8 @@ ghost use Rattle.node_core.specs.Broadcasts as broadcasts;
 
 use ax_address::{Address, Alias, Call, Entry, MAX_ENTRIES, Path};
 use ax_frame::{Control, FrameBytes, FrameView, Head, write_frame};
-use nodes_broadcast::{Nodes, push_nodes};
+use nodes_broadcast::{Nodes, nodes_call, push_nodes};
 use radio_base::{M8, NETROM_PID};
-
-/// The call to which broadcasts go.
-#[tactic(auto, using(crate::proofs::Names::nodes_is_call))]
-fn nodes_call() -> Call
-    ensures { result ≡ broadcasts.nodes_call }
-{
-    Call::from_letters(*b"NODES ", 0)
-}
 
 /// A frame goes to all nodes, as a broadcast does.
 pub(crate) fn is_to_nodes(head: &Head) -> bool

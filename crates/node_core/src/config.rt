@@ -1,4 +1,4 @@
-//! The settings of a node.
+//! The settings of a node. Used by `node` and `station`, and by `node_settings` and `node_cmd`.
 use ax_address::{Alias, Call};
 use ax_link::LinkConfig;
 use circuit_l4::{EndConfig, Pair};

@@ -1,4 +1,4 @@
-//! What a node tells.
+//! What a node tells. Used by `node`, `receiving`, `settling` and `station`, and by the replay and `trace_lines`.
 use ax_address::Call;
 use ax_link::LinkNotice;
 use circuit_table::SetEvent;

@@ -1,4 +1,4 @@
-//! What comes as KISS bytes, or as a frame where the channel has no bytes.
+//! What comes as KISS bytes, or as a frame where the channel has no bytes. Called by `node`.
 ghost use Rattle.std.specs.Prelude.{◌≡◌, ◌<◌, ◌≤◌, ◌++◌, ℕ, List, IfOk, IfSome, Some, OnOk, length, take};
 ghost use Rattle.kiss_framing.specs.Stream as kiss;
 ghost use Rattle.kiss_framing.specs.Stream.{framed, items};

@@ -1,4 +1,4 @@
-//! What whoever serves the users of a node does at its links.
+//! What whoever serves the users of a node does at its links. Called by `acting`.
 ghost use Rattle.node_core.specs.Acts as acts;
 
 use crate::station::Station;

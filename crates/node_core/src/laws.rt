@@ -1,4 +1,5 @@
-//! What the definitions promise by themselves.
+//! Laws of a whole node, of its definitions alone: that it settles, and what its inputs are to circuits, datagrams and sessions. Called by
+//! `node` and `settling`, and by `node_cmd` and the laws of the replay.
 ghost use Rattle.circuit_table.specs.Pumps.{TellsLess};
 ghost use Rattle.link_table.specs.Kept.{CountsPayloads, OffersLeave, TakesLower};
 ghost use Rattle.node_core.specs.Sound.{KeepsItsShare};

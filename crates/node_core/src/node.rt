@@ -1,4 +1,4 @@
-//! A whole node.
+//! A whole node. Called by `node_settings`, the replay and crates above.
 ghost use Rattle.std.specs.Prelude.{◌≡◌, ◌<◌, ◌≤◌, ◌↔◌, IfOk, IfSome, OnOk, OnErr, IsErr, IsErrOf, IsTrue, false, is_some, slice_get};
 ghost use Rattle.std.specs.List.{AllByRecursion};
 ghost use Rattle.std.specs.Option.{option_copied, option_map};
@@ -13,8 +13,8 @@ ghost use Rattle.node_core.specs.Bounds.{IsWithin};
 ghost use Rattle.node_core.specs.Inputs as inputs;
 ghost use Rattle.node_core.specs.Runs.{IsUserAct};
 ghost use Rattle.node_core.specs.Acts.{act_of};
-ghost use Rattle.node_turns.specs.States as states;
-ghost use Rattle.node_turns.specs.States.{NodeState};
+ghost use Rattle.node_model.specs.States as states;
+ghost use Rattle.node_model.specs.States.{NodeState};
 
 use crate::acts::wants_memory;
 use crate::feeding::{take_bytes, take_kiss_frame};

@@ -1,4 +1,4 @@
-//! The qualities of the paths to single neighbours.
+//! The qualities of the paths to single neighbours. Called by `station`.
 ghost use Rattle.std.specs.Prelude.{◌≡◌, ◌≤◌, [], false, length, OnOk};
 ghost use Rattle.std.specs.Map.{lookup};
 ghost use Rattle.indexmap.specs.IndexMap.{insert_entry};

@@ -1,4 +1,4 @@
-//! Why the quality of a path is refused.
+//! Why the quality of a path is refused. Used by `node` and `station`.
 
 /// Why the quality of the path to a neighbour isn't set.
 #[derive(Clone, Copy, Debug, PartialEq, Eq)]

@@ -1,38 +1,29 @@
-//! What comes in: KISS items, and the frames in them.
-ghost use Rattle.std.specs.Prelude.{◌≡◌, ◌≤◌, [], ◌∷◌, false, OnOk, bit_or, length, slice_index, slice_set, MatchResult, Ok, Err, if◌then◌else◌};
-ghost use Rattle.std.specs.List.{prefix_len};
-ghost use Rattle.ax_frame.specs.Frames.{BeginsWith, view, with_head, read_at};
+//! What comes in: KISS items, and the frames in them. Called by `feeding`.
+ghost use Rattle.std.specs.Prelude.{◌≡◌, ◌≤◌, [], ◌∷◌, false, OnOk, length, Ok};
+ghost use Rattle.ax_frame.specs.Frames.{BeginsWith, view, read_at};
 ghost use Rattle.ax_frame.specs.Reading.{head_end};
 ghost use Rattle.ax_frame.specs.declared.head.Head.{Head};
-ghost use Rattle.digi_path.specs.Paths.{action, has_repeated};
+ghost use Rattle.digi_path.specs.Paths.{action};
 ghost use Rattle.kiss_framing.specs.Feeding.{IsSmall};
 ghost use Rattle.nodes_broadcast.specs.Nodes.{nodes_at};
 ghost use Rattle.route_table.specs.Log.{broadcast};
-ghost use Rattle.node_turns.specs.Links as links;
+ghost use Rattle.node_model.specs.Links as links;
+ghost use Rattle.radio_base.specs.Modulus.{modulus_size};
 ghost use Rattle.node_core.specs.Receiving as receiving;
-ghost use Rattle.node_turns.specs.States as states;
-ghost use Rattle.node_turns.specs.States.{Overflow, State};
+ghost use Rattle.node_model.specs.States as states;
+ghost use Rattle.node_model.specs.States.{Overflow, State};
 
 use crate::NodeEntry;
 use crate::broadcasts::{is_broadcast, is_to_nodes};
 use crate::station::Station;
 use ax_address::{Address, Alias, Call, Entry};
-use ax_frame::{Behind, FrameRefusal, FrameView, Head, read_behind, read_head};
-use digi_path::{DigiStep, step};
+use ax_frame::{FrameView, Head, read_behind, read_head};
+use digi_path::{DigiStep, set_h_bit, step};
 use kiss_framing::KissItem;
-use link_table::{Octets, Written, WrittenAs};
+use link_table::{Octets, Written};
 use nodes_broadcast::{Nodes, read_nodes_into};
-use radio_base::{M8, M128, Moment, NoMemory};
+use radio_base::{LinkModulus, Moment, NoMemory};
 use route_table::HeardRefusal;
-
-/// How many octets stand before the repeaters, and how many each address has.
-const REPEATERS_AT: usize = 14;
-
-const ADDRESS_LEN: usize = 7;
-/// The octet of a repeater's address, from 0, that has its H bit, and that bit.
-const LAST_OCTET: usize = 6;
-
-const H_BIT: u8 = 0x80;
 
 impl Station {
     ghost use Rattle.node_core.specs.Going.{StationGoes, item_of};
@@ -144,10 +135,10 @@ impl Station {
             self.old self.new) }
     {
         let mut repeated = octets.to_vec(self.alloc)?;
-        set_h_bit(&mut repeated, h_octet(path));
+        set_h_bit(&mut repeated, path);
         self.put(Written {
             octets: Octets::from_vec(repeated),
-            how: WrittenAs::AsItCame,
+            modulus: None,
         })?;
         Ok(())
     }
@@ -167,8 +158,8 @@ impl Station {
             (λ n. receiving.take_frame now.0 mine (read_at (receiving.modulus_with head.source.call n) octets.now) n)
             self.old self.new) }
     {
-        let is_128 = self.is_128(&head.source.call);
-        match read_by(is_128, at, octets) {
+        let modulus = self.modulus_with(&head.source.call);
+        match read_behind(modulus, at, octets) {
             Ok(behind) => {
                 let frame = FrameView {
                     head,
@@ -183,11 +174,11 @@ impl Station {
         }
     }
 
-    /// Whether the link with a peer is of modulo 128.
-    fn is_128(&self, peer: &Call) -> bool
-        ensures { (n : State) → Holds self.now n → result ≡ links.is_128 peer.now n.links }
+    /// By which modulus a frame from a peer is read: that of the link with it, and modulo 8 where none stands.
+    fn modulus_with(&self, peer: &Call) -> LinkModulus
+        ensures { (n : State) → Holds self.now n → modulus_size result ≡ receiving.modulus_with peer.now n }
     {
-        self.set.router().carrier().is_128(peer)
+        LinkModulus::extended_if(self.set.router().carrier().is_128(peer))
     }
 
     /// A broadcast is heard, and another frame to this node goes to its links.
@@ -253,46 +244,5 @@ impl Station {
         self.entries
             .push_back(NodeEntry::Overflow { live, would_be })?;
         Ok(())
-    }
-}
-
-/// The octet with the H bit of the first repeater that hasn't repeated the frame.
-fn h_octet(path: &[Address]) -> usize
-    ensures { result ≡ receiving.h_octet (prefix_len has_repeated path.now) }
-{
-    REPEATERS_AT + ADDRESS_LEN * times_repeated(path) + LAST_OCTET
-}
-
-/// How many repeaters at the front have repeated the frame.
-fn times_repeated(path: &[Address]) -> usize
-    ensures value { result ≡ prefix_len has_repeated path.now }
-    ensures bound { result ≤ length path.now }
-{
-    path.iter().take_while(|repeater| repeater.bit7).count()
-}
-
-/// Sets the H bit in one of these octets.
-fn set_h_bit(octets: &mut [u8], at: usize)
-    ensures { octets.new ≡ slice_set octets.old at (bit_or (slice_index octets.old at) 0x80) }
-{
-    if at < octets.len() {
-        octets[at] |= H_BIT;
-    }
-}
-
-/// What stands behind the head of these octets, which was read already and ends at a place, with sequence numbers modulo
-/// 128 or modulo 8.
-#[inline(always)]
-fn read_by(is_128: bool, at: usize, octets: &[u8]) -> Result<Behind<'_>, FrameRefusal>
-    requires { head_end octets.now ≡ Ok at }
-    ensures { let size = (if is_128 then 128 else 8) in
-        (h : Head) → BeginsWith octets.now h at
-        → MatchResult result (λ b. read_at size octets.now ≡ Ok (with_head h b))
-        (λ e. read_at size octets.now ≡ Err e) }
-{
-    if is_128 {
-        read_behind::<M128>(at, octets)
-    } else {
-        read_behind::<M8>(at, octets)
     }
 }

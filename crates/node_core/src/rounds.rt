@@ -1,18 +1,18 @@
-//! Rounds and ticks.
+//! Rounds and ticks. Called by `node` and `acting`.
 ghost use Rattle.std.specs.Prelude.{◌≤◌, ◌*◌, OnOk, length};
 ghost use Rattle.ax_link.specs.State.{count_end};
 ghost use Rattle.node_core.specs.Broadcasts.{round_frame};
 ghost use Rattle.node_core.specs.Inputs as inputs;
-ghost use Rattle.node_turns.specs.Links as links;
+ghost use Rattle.node_model.specs.Links as links;
 ghost use Rattle.node_core.specs.Broadcasts as rounds;
-ghost use Rattle.node_turns.specs.States as states;
+ghost use Rattle.node_model.specs.States as states;
 
 use crate::broadcasts::{entries_of_frame, frame_count, write_broadcast};
 use crate::station::Station;
 use ax_address::Entry;
 use ax_frame::FrameBytes;
-use link_table::{Octets, Written, WrittenAs};
-use radio_base::{Moment, NoMemory};
+use link_table::{Octets, Written};
+use radio_base::{LinkModulus, Moment, NoMemory};
 
 impl Station {
     ghost use Rattle.node_core.specs.Going.{GoesWhereTold, StandsTold, StationGoes};
@@ -125,7 +125,7 @@ impl Station {
         write_broadcast(&self.call(), &self.alias, page, octets);
         self.put(Written {
             octets: Octets::new(self.alloc, octets)?,
-            how: WrittenAs::Modulo8,
+            modulus: Some(LinkModulus::Modulo8),
         })?;
         Ok(())
     }

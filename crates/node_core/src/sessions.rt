@@ -1,4 +1,4 @@
-//! The users at the prompt: their sessions, and how these are served.
+//! The users at the prompt: their sessions, and how these are served. Called by `settling` and `station`.
 mod asking;
 mod bridging;
 mod hearing;

@@ -1,13 +1,13 @@
-//! What follows an input: the notices of the links are entered, the circuits are pumped, the users are served; and again while any
-//! of these did something.
+//! What follows an input: the notices of the links are entered, the circuits are pumped, the users are served; and again while any of these
+//! did something. Called by `acting`, `feeding` and `rounds`.
 ghost use Rattle.std.specs.Prelude.{◌≡◌, ◌<◌, IfOk, IfSome, OnOk, length, slice_get};
 ghost use Rattle.link_table.specs.Calls as calls;
 ghost use Rattle.node_core.specs.Inputs as inputs;
-ghost use Rattle.node_turns.specs.Links as links;
-ghost use Rattle.node_turns.specs.Pumping as pumping;
-ghost use Rattle.node_turns.specs.Serving as settling;
-ghost use Rattle.node_turns.specs.States as states;
-ghost use Rattle.node_turns.specs.States.{State};
+ghost use Rattle.node_model.specs.Links as links;
+ghost use Rattle.node_model.specs.Pumping as pumping;
+ghost use Rattle.node_model.specs.Serving as settling;
+ghost use Rattle.node_model.specs.States as states;
+ghost use Rattle.node_model.specs.States.{State};
 
 use crate::station::Station;
 use crate::{NodeEntry, laws};
@@ -188,7 +188,7 @@ impl Station {
     }
 
     /// The first peer at whose link a text waits.
-    #[tactic(auto, unfolding(node_turns::specs::Links::text_peers))]
+    #[tactic(auto, unfolding(node_model::specs::Links::text_peers))]
     pub(crate) fn first_text(&self) -> Option<Call>
         ensures { (n : State) → Holds self.now n → result ≡ slice_get (links.text_peers n.links) 0 }
     {

@@ -1,12 +1,12 @@
-//! A node above its KISS bytes.
+//! A node above its KISS bytes. Called by `node`.
 ghost use Rattle.std.specs.Prelude.{◌≡◌, ◌<◌, IfOk, IfSome, OnErr, OnOk, false, length, slice_get};
 ghost use Rattle.node_core.specs.Configs.{IsConfig, start_of};
 ghost use Rattle.link_table.specs.Calls as calls;
 ghost use Rattle.node_core.specs.Qualities.{QualityNotNoMemory, is_full, quality_answer, with_quality};
 ghost use Rattle.node_core.specs.Receiving.{quality_to};
-ghost use Rattle.node_turns.specs.Links.{sent_frames};
-ghost use Rattle.node_turns.specs.States as states;
-ghost use Rattle.node_turns.specs.States.{State};
+ghost use Rattle.node_model.specs.Links.{sent_frames};
+ghost use Rattle.node_model.specs.States as states;
+ghost use Rattle.node_model.specs.States.{State};
 
 use crate::path_qualities::PathQualities;
 use crate::sessions::Session;

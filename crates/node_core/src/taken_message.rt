@@ -1,4 +1,4 @@
-//! A message that was taken from an end.
+//! A message that was taken from an end. Called by `acting`, `acts` and `hosting`.
 ghost use Rattle.std.specs.Prelude.{◌≡◌};
 
 use radio_base::NoMemory;

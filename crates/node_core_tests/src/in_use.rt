@@ -1,12 +1,10 @@
 //! The lines that stand at `Node`.
-use crate::nodes::{NOW, a_call, b_call, config};
+use crate::nodes::{NOW, Trial, b_call, on_three_nodes, take_in};
 use ax_link::LinkNotice;
 use circuit_table::SetEvent;
-use link_table::Written;
 use node_core::{ActDone, Node, NodeEntry, UserAct};
 use radio_base::Moment;
 use std::process::Abort;
-use std::test::Fail;
 
 /// N0BBB's broadcast without entries.
 const BROADCAST: [u8; 23] = [
@@ -33,35 +31,58 @@ const ASKED: [u8; 51] = [
 ];
 
 #[test]
-fn a_node_in_use(rt: HostRuntime) -> Result<(), Fail> {
-    let (alloc, config, neighbour) = (rt.alloc(), config(a_call(), true), b_call());
-    let (now, later, broadcast, accept) = (NOW, Moment(1000), BROADCAST, ACCEPT);
-
-    let mut node = Node::new(alloc, config)?;
-    node.kiss_frame(&broadcast, now)?; // of a neighbour
-    let hop = node.routes().next_hop(&neighbour); // the neighbour
-    let made = node.act(&UserAct::Connect(neighbour), now)?; // Made, with the number of the new end
-    let told = node.trace_entry(); // Made
-    let sent = node.trace_entry(); // Sent: its Request waits for a link
-    let set_up = node.next_frame(); // a SABM for the neighbour, in octets
-    node.kiss_bytes(&accept, now)?; // its UA
-    let opened = node.trace_entry(); // the neighbour, and Opened
-    let asked = node.next_frame(); // an I with the Request
-    node.tick(later)?;
-
-    assert!(rt; hop == Some(neighbour));
-    assert!(rt; matches!(made, ActDone::Made(1)));
-    assert!(rt; matches!(told, Some(NodeEntry::Set(SetEvent::Made { id: 1, .. }))));
-    assert!(rt; matches!(sent, Some(NodeEntry::Set(SetEvent::Sent { id: 1, .. }))));
-    expect_octets(&rt, &set_up, &SET_UP);
-    let up = NodeEntry::Link(neighbour, LinkNotice::Opened);
-    assert!(rt; opened == Some(up));
-    expect_octets(&rt, &asked, &ASKED);
-    Ok(())
+fn a_node_in_use(rt: HostRuntime) {
+    on_three_nodes(&rt, rt.alloc(), Trial::InUse);
 }
 
-fn expect_octets(rt: &impl Abort, frame: &Option<Written>, octets: &[u8]) {
-    match frame {
+/// The lines, in three steps: each lets its values go before the next.
+pub fn use_node(rt: &impl Abort, node: &mut Node) {
+    ask(rt, node);
+    expect_asking(rt, node);
+    open(rt, node);
+    assert!(rt; node.tick(Moment(1000)) == Ok(()));
+}
+
+/// A neighbour is heard, and a circuit to it asked for.
+fn ask(rt: &impl Abort, node: &mut Node) {
+    let neighbour = b_call();
+    assert!(rt; node.kiss_frame(&BROADCAST, NOW) == Ok(()));
+    assert!(rt; node.routes().next_hop(&neighbour) == Some(neighbour));
+    assert!(rt;
+        matches!(
+            node.act(&UserAct::Connect(neighbour), NOW),
+            Ok(ActDone::Made(1))
+        )
+    );
+}
+
+/// The request waits for a link, which is set up.
+fn expect_asking(rt: &impl Abort, node: &mut Node) {
+    assert!(rt;
+        matches!(
+            node.trace_entry(),
+            Some(NodeEntry::Set(SetEvent::Made { id: 1, .. }))
+        )
+    );
+    assert!(rt;
+        matches!(
+            node.trace_entry(),
+            Some(NodeEntry::Set(SetEvent::Sent { id: 1, .. }))
+        )
+    );
+    expect_frame(rt, node, &SET_UP);
+}
+
+/// The neighbour accepts the link, and the request goes over it.
+fn open(rt: &impl Abort, node: &mut Node) {
+    take_in(rt, node, &ACCEPT);
+    let up = NodeEntry::Link(b_call(), LinkNotice::Opened);
+    assert!(rt; node.trace_entry() == Some(up));
+    expect_frame(rt, node, &ASKED);
+}
+
+fn expect_frame(rt: &impl Abort, node: &mut Node, octets: &[u8]) {
+    match node.next_frame() {
         Some(frame) => assert!(rt; frame.octets.as_slice() == octets),
         None => rt.abort(),
     }

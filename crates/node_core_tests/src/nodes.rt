@@ -2,7 +2,7 @@
 ghost use Rattle.std.specs.Prelude.{◌≡◌, false};
 ghost use Rattle.node_core.specs.Configs.{IsConfig};
 
-use crate::{for_user, hosted, qualities};
+use crate::{for_user, hosted, in_use, qualities};
 use arrayvec::ArrayVec;
 use ax_address::{Alias, Call};
 use ax_link::LinkConfig;
@@ -70,6 +70,7 @@ fn c_call() -> Call {
 /// What is tried on three nodes.
 #[derive(Clone, Copy)]
 pub enum Trial {
+    InUse,
     WholeFrame,
     NamedUser,
     RepeatedRequest,
@@ -94,6 +95,7 @@ pub fn node(rt: &impl Abort, alloc: Global, call: Call, links: bool) -> Node {
 
 fn play(rt: &impl Abort, trial: Trial, a: &mut Node, b: &mut Node, c: &mut Node) {
     match trial {
+        Trial::InUse => in_use::use_node(rt, a),
         Trial::WholeFrame => hear_a_whole_frame(rt, a, b, c),
         Trial::NamedUser => for_user::ask(rt, a, b),
         Trial::RepeatedRequest => for_user::repeat(rt, a),

@@ -1,2 +1,1 @@
-pub mod FirstWord
 pub mod LineLaws

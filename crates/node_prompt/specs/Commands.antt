@@ -1,7 +1,7 @@
 -- What a line of a user asks for, by its words. Own profile.
 use Rattle.std.specs.Prelude.{ℕ, List, [], ◌∷◌, length, map, Option, Some, None, Result, Ok, Err, Bool, ◌||◌, nat_eq, nat_lt, codes, if◌then◌else◌, ◌-◌, filter, ◌&&◌, ◌==◌, not, nat_le}
 use Rattle.std.specs.Cmp.Lexicographic.{pointwise}
-use Rattle.std.specs.List.{slice_split}
+pub use Rattle.text_lines.specs.Lines.{words_of}
 use Rattle.ax_address.specs.Callsign.{Callsign, call_at}
 use Rattle.ax_address.specs.declared.call.CallRefusal.{CallRefusal}
 use Rattle.node_prompt.specs.declared.command.Command.{Command}
@@ -16,10 +16,6 @@ use Rattle.node_prompt.specs.declared.command.Verb.TheVariants.{Connect, Nodes, 
 -- a to z as A to Z, and all else as it is
 abbrev pub capital : ℕ → ℕ
 capital b = if nat_le 97 b && nat_le b 122 then b - 32 else b
-
--- the longest runs without a space
-abbrev pub words_of : List ℕ → List (List ℕ)
-words_of line = filter (λ word. not (length word == 0)) (slice_split (λ b. b == 32) line)
 
 abbrev pub is_either : List ℕ → List ℕ → List ℕ → Bool
 is_either word whole letter = pointwise nat_eq word whole || pointwise nat_eq word letter

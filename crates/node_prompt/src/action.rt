@@ -1,4 +1,4 @@
-//! What is to be done for a line.
+//! What is to be done for a line. Used by `prompt`, and by `node_core`.
 use crate::sight::Sight;
 use ax_address::Call;
 use l3_datagram::Message;

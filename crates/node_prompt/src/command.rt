@@ -3,8 +3,9 @@ ghost use Rattle.std.specs.Prelude.{◌≡◌, Ok};
 ghost use Rattle.node_prompt.specs.Commands as commands;
 
 use crate::line_refusal::LineRefusal;
-use crate::words::{MAX_LINE, capitals, first_word};
+use crate::words::{MAX_LINE, capitals};
 use ax_address::Call;
+use text_lines::first_word;
 
 /// What a line asks for.
 #[derive(Clone, Copy, Debug, PartialEq, Eq)]
@@ -17,7 +18,7 @@ pub enum Command {
     Nodes,
     /// The routes to this destination.
     RoutesTo(Call),
-    /// The destinations that have a route over themselves.
+    /// The neighbours: the destinations that have a direct route.
     Routes,
     /// The partners of the ends that are held.
     Users,

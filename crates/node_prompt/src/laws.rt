@@ -1,4 +1,4 @@
-//! What the definitions promise by themselves.
+//! Laws of the definitions of lines and replies alone. No code calls them.
 ghost use Rattle.node_prompt.specs.Laws.{WantedIsAskedFor, RoutesAreAskedFor, CaseIsNothing, AllIsReply};
 
 /// The routes to a destination are wanted, and shown, exactly for a line that is `NODES` or `N` and a call, in letters of any case.

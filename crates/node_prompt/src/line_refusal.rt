@@ -1,4 +1,4 @@
-//! Why a line asks for nothing that there is.
+//! Why a line asks for nothing that there is. Used by `command` and `prompt`.
 
 /// Why a line asks for nothing that there is.
 #[derive(Clone, Copy, Debug, PartialEq, Eq)]

@@ -1,4 +1,4 @@
-//! The lines of the replies.
+//! The lines of the replies. Called by `prompt`.
 ghost use Rattle.std.specs.Prelude.{◌≡◌, ◌≤◌, ◌<◌, ◌+◌, ◌*◌, ◌++◌, length, codes};
 ghost use Rattle.std.specs.Fmt.{decimal};
 ghost use Rattle.std.specs.List.{flat_map};
@@ -63,7 +63,7 @@ pub fn add_routes_to(dest: &Call, routes: &[Route], reply: &mut Message)
     }
 }
 
-/// Appends the destinations that have a route over themselves.
+/// Appends the neighbours: the destinations that have a direct route.
 pub fn add_routes(neighbours: &[Route], reply: &mut Message)
     requires begun { length reply.old.items ≤ 18 }
     requires few { length neighbours.now ≤ 64 }

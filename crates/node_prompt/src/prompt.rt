@@ -1,4 +1,4 @@
-//! What a node says at its prompt.
+//! What a node says at its prompt. Called by `node_core`.
 ghost use Rattle.std.specs.Prelude.{◌≡◌, ◌≤◌, ◌+◌, ◌*◌, ◌++◌, length, IfSome, Ok};
 ghost use Rattle.ax_address.specs.Callsign as calls;
 ghost use Rattle.node_prompt.specs.Replies.{ended, prefix_of};

@@ -1,4 +1,4 @@
-//! What a user can ask to see of a node.
+//! What a user can ask to see of a node. Used by `action` and `prompt`, and by `node_core`.
 use ax_address::Call;
 
 /// What a user can ask to see of a node.
@@ -8,7 +8,7 @@ pub enum Sight {
     Nodes,
     /// The routes to this destination.
     RoutesTo(Call),
-    /// The destinations that have a route over themselves.
+    /// The neighbours: the destinations that have a direct route.
     Routes,
     /// The partners of the ends that are held.
     Users,

@@ -1,4 +1,4 @@
-//! Why a circuit isn't there.
+//! Why a circuit isn't there. Used by `prompt`, and by `node_model` and `node_core`.
 
 /// Why a circuit that was asked for isn't there.
 #[derive(Clone, Copy, Debug, PartialEq, Eq)]

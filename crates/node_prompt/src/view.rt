@@ -1,4 +1,4 @@
-//! What there is to see of a node.
+//! What there is to see of a node. Used by `prompt`, and by `node_core`.
 use arrayvec::ArrayVec;
 use ax_address::Call;
 use route_table::Route;

@@ -3,7 +3,7 @@ use Rattle.std.proofs.Common.{◌≡◌, ℕ, List, [], ◌∷◌, Bool, true, f
 use Rattle.std.specs.Prelude.{◌==◌}
 use Rattle.network_file.specs.declared.plan.vias.Via.{Via}
 use Rattle.node_settings.specs.Settings.{is_via_of, with_vias}
-use Rattle.node_turns.specs.States.{NodeState}
+use Rattle.node_model.specs.States.{NodeState}
 
 vias_case : (via : Via) (others : List Via) (b : Bool) (n : NodeState) → with_vias (cond b (via ∷ others) others) n ≡ with_vias others (with_vias (cond b (via ∷ []) []) n)
 vias_case via others true n = refl

@@ -15,7 +15,7 @@ use Rattle.network_file.specs.Keys.{Assignment, value_of}
 use Rattle.node_core.specs.declared.config.NodeConfig.{NodeConfig}
 use Rattle.node_core.specs.Broadcasts.{address_of}
 use Rattle.route_table.specs.declared.route.RouteRules.{RouteRules}
-use Rattle.node_turns.specs.States.{NodeState, at_links}
+use Rattle.node_model.specs.States.{NodeState, at_links}
 
 -- ---- the settings of a node
 

@@ -1,4 +1,4 @@
-//! The repeaters over which a node reaches its peers.
+//! The repeaters over which a node reaches its peers. Called by the replay and `node_cmd`.
 ghost use Rattle.std.specs.Prelude.{◌≡◌, ◌<◌, ◌+◌, ◌++◌, ◌∷◌, [], filter, OnOk};
 ghost use Rattle.arrayvec.specs.ArrayVec.{array_vec_len};
 ghost use Rattle.node_core.specs.Standing.{NodeGoes};

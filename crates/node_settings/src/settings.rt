@@ -1,4 +1,4 @@
-//! The settings of a file as a node takes them.
+//! The settings of a file as a node takes them. Called by the replay and `node_cmd`.
 ghost use Rattle.std.specs.Prelude.{◌≡◌, ◌≤◌};
 ghost use Rattle.ax_link.specs.State.{count_end};
 ghost use Rattle.circuit_l4.specs.Opening as ends;

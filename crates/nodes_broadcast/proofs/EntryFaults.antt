@@ -12,7 +12,7 @@ use Rattle.ax_address.specs.declared.entry.Entry.{Entry}
 use Rattle.nodes_broadcast.specs.declared.nodes.NodesRefusal.{NodesRefusal}
 use Rattle.nodes_broadcast.specs.declared.nodes.NodesRefusal.TheVariants.{BadCall}
 use Rattle.nodes_broadcast.specs.Nodes.{call_from, entry_at, entries_at}
-use Rattle.ax_address.proofs.CallFaults.{call_bad, drop_front, still_none}
+use Rattle.ax_address.proofs.CallFaults.{call_bad, drop_front, still_none, not_both}
 use Rattle.nodes_broadcast.proofs.Spelled.{entry_told}
 
 -- ---- one entry
@@ -85,9 +85,6 @@ record EntryBad (at : ℕ) (os : List ℕ) (w : NodesRefusal) : Type 0 where
 
 past : (front back : List ℕ) (n more : ℕ) → length front ≡ n → drop (n + more) (front ++ back) ≡ drop more back
 past front back n more len = ap (λ k. drop (k + more) (front ++ back)) (sym len) ∙ drop-append-add front back more
-
-not_both : (o : Option AddressRefusal) (r : AddressRefusal) → o ≡ None → o ≡ Some r → ⊥
-not_both o r h k = cc
 
 -- a last octet of a call, an alias of spaces, the call A and a quality
 abbrev behind_dest : List ℕ

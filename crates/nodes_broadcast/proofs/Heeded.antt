@@ -1,12 +1,13 @@
 -- What is heeded of octets is what they spell, so octets that spell one broadcast differ in what isn't heeded alone.
-use Rattle.std.proofs.Common.{◌≡◌, ◌/◌, ◌%◌, ◌++◌, ◌∙◌, ℕ, refl, sym, ap, List, [], ◌∷◌, length, take, drop}
-use Rattle.std.proofs.lemmas.List.{take_at, drop_at}
+use Rattle.std.proofs.Common.{◌≡◌, ◌++◌, ◌∙◌, ℕ, refl, sym, ap, List, [], ◌∷◌, length, take, drop}
 use Rattle.ax_address.specs.Callsign.{Callsign}
 use Rattle.ax_address.specs.Octets.{SpellsNetCall, heeded_call}
 use Rattle.ax_address.specs.declared.entry.Entry.{Entry}
+use Rattle.ax_address.proofs.NetCallLaws.{six_doubled, call_parts}
+use Rattle.ax_address.proofs.CallOctets.{doubles}
 use Rattle.nodes_broadcast.specs.Nodes.{Broadcast, Spells, SpellsEntry, SpellsEntries, nodes_octets}
 use Rattle.nodes_broadcast.specs.Laws.{WrittenSpellsIt, WrittenAgainIsTheSame, heeded_entry, heeded_entries, heeded}
-use Rattle.nodes_broadcast.proofs.Written.{doubles, six_doubled, is_broadcast}
+use Rattle.nodes_broadcast.proofs.Written.{is_broadcast}
 
 abbrev call_said : Callsign → List ℕ
 call_said c = doubles c.letters ++ c.ssid ∷ []
@@ -17,9 +18,6 @@ entry_said e = call_said e.dest ++ e.alias ++ call_said e.best ++ e.quality ∷ 
 abbrev entries_said : List Entry → List ℕ
 entries_said [] = []
 entries_said (e ∷ es) = entry_said e ++ entries_said es
-
-call_parts : (ls : List ℕ) (o ssid : ℕ) → length ls ≡ 6 → o / 2 % 16 ≡ ssid → heeded_call (ls ++ o ∷ []) ≡ ls ++ ssid ∷ []
-call_parts ls o ssid h e = rw (take_at ls (o ∷ []) 6 h, drop_at ls (o ∷ []) 6 h) (ap (λ k. ls ++ k ∷ []) e)
 
 call_heeded : (c : Callsign) (os : List ℕ) → SpellsNetCall c os → heeded_call os ≡ call_said c
 call_heeded c os h = ap heeded_call h.spelled ∙ call_parts (doubles c.letters) h.last c.ssid (six_doubled c h.is_call) h.ssid

@@ -5,3 +5,4 @@ pub mod Turns
 pub mod Joined
 pub mod EntryFaults
 pub mod Faults
+pub mod Names

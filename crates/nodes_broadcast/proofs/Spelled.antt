@@ -1,7 +1,7 @@
 -- Octets that spell a broadcast are read as it.
 use Rattle.std.proofs.Common.{◌≡◌, ◌≤◌, ◌+◌, ◌-◌, ◌*◌, ◌/◌, ◌%◌, ◌∙◌, ℕ, zero, suc, refl, sym, ap, List, [], ◌∷◌, length, take, drop, get_or, arith, Bool, true, false, cond, length-take, length-drop, drop-cons}
-use Rattle.std.specs.Prelude.{Option, Some, None, Result, Ok, Err, nat_le, nat_lt, not, ◌&&◌, ◌==◌, IsOkAnd, MatchResult}
-use Rattle.std.proofs.lemmas.Bool.{eq-eqb}
+use Rattle.std.specs.Prelude.{Option, Some, None, Result, Ok, Err, nat_le, nat_lt, not, ◌==◌, IsOkAnd, MatchResult}
+use Rattle.std.proofs.lemmas.Bool.{eq-eqb, and_from}
 use Rattle.std.proofs.lemmas.Bool.Decides.{nat_tests}
 use Rattle.ax_address.specs.Callsign.{Callsign}
 use Rattle.ax_address.specs.Octets.{SpelledNetCallIsRead, net_call_at}
@@ -98,9 +98,6 @@ first_is : (os : List ℕ) → take 1 os ≡ 255 ∷ [] → is_nodes os ≡ true
 first_is [] h = absurd (cc)
 first_is (o ∷ os) h = let e : o ≡ 255 = cc in eq-eqb o 255 e
 
-both_true : (p q : Bool) → p ≡ true → q ≡ true → (p && q) ≡ true
-both_true p q h g = rw (h, g) refl
-
 -- there are as many octets as a broadcast has
 pub spelled_len : (b : Broadcast) (os : List ℕ) → Spells b os → length os ≡ 7 + 21 * length b.entries
 spelled_len b os h = omega (arith, length-drop 7 os, length-drop 1 os, length-take 6 (drop 1 os), ap length h.alias, h.six, entries_len b.entries (drop 7 os) h.entries)
@@ -112,7 +109,7 @@ shape_of n os first len few =
     let whole : ((length os - 7) % 21 == 0) ≡ true = eq-eqb ((length os - 7) % 21) 0 rest in
     let short : nat_lt 238 (length os) ≡ false = grind (arith, nat_tests) in
     no_fault (is_nodes os) (is_length (length os)) (nat_lt 238 (length os)) (length os) (first_is os first)
-    (both_true (nat_le 7 (length os)) ((length os - 7) % 21 == 0) head whole) short
+    (and_from (nat_le 7 (length os)) ((length os - 7) % 21 == 0) head whole) short
 
 shape_good : (b : Broadcast) (os : List ℕ) → Spells b os → shape_fault os ≡ None
 shape_good b os h = shape_of (length b.entries) os h.is_nodes (spelled_len b os h) h.few

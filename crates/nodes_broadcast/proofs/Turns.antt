@@ -2,7 +2,7 @@
 use Rattle.std.proofs.Common.{◌≡◌, ◌<◌, ◌≤◌, ◌+◌, ◌++◌, ◌∙◌, ℕ, zero, suc, refl, sym, ap, subst, List, [], ◌∷◌, length, take, drop, get_or, arith, append_assoc, append-nil, drop-cons, add-one, length-drop}
 use Rattle.std.specs.Prelude.{Result, Ok, Err}
 use Rattle.std.specs.List.{AllByRecursion}
-use Rattle.std.proofs.lemmas.List.{take_all}
+use Rattle.std.proofs.lemmas.List.{take_all, nil_from_length}
 use Rattle.ax_address.specs.declared.entry.Entry.{Entry}
 use Rattle.ax_address.specs.Results.{◌>>=◌}
 use Rattle.nodes_broadcast.specs.declared.nodes.NodesRefusal.{NodesRefusal}
@@ -44,12 +44,8 @@ pub spells_on : (whole : List ℕ) (xs : List Entry) (e : Entry) (os : List ℕ)
     → SpellsEntry e (take 21 os) → (more : List Entry) → SpellsEntries more (drop 21 os) → SpellsEntries ((xs ++ e ∷ []) ++ more) whole
 spells_on whole xs e os h s more t = rw (append_assoc xs (e ∷ []) more) (h (e ∷ more) (s, t))
 
-empty : {A : Type 0} (xs : List A) → length xs ≡ 0 → xs ≡ []
-empty [] h = refl
-empty (x ∷ xs) h = absurd (omega arith)
-
 pub spells_all : (whole os : List ℕ) (xs : List Entry) → ((more : List Entry) → SpellsEntries more os → SpellsEntries (xs ++ more) whole) → length os ≡ 0 → SpellsEntries xs whole
-spells_all whole os xs h e = subst (λ ys. SpellsEntries ys whole) (append-nil xs) (h [] (empty os e))
+spells_all whole os xs h e = subst (λ ys. SpellsEntries ys whole) (append-nil xs) (h [] (nil_from_length os e))
 
 pub written_on : (xs : List Entry) (i : ℕ) (e : Entry) (out new done : List ℕ) → i < length xs → e ≡ get_or xs i e → new ≡ out ++ entry_octets e → out ++ entries_octets (drop i xs) ≡ done → new ++ entries_octets (drop (i + 1) xs) ≡ done
 written_on xs i e out new done within h n d =
@@ -65,7 +61,7 @@ all_on xs i e within h p a = rw add-one (more xs i e within h p a)
     more (x ∷ xs) (suc i) e w h p a = (a.0, more xs i e (omega arith) h p a.1)
 
 none_left : (xs : List Entry) (i : ℕ) → length xs ≤ i → drop i xs ≡ []
-none_left xs i h = empty (drop i xs) (omega (arith, length-drop i xs))
+none_left xs i h = nil_from_length (drop i xs) (omega (arith, length-drop i xs))
 
 pub written_all : (xs : List Entry) (i : ℕ) (out done : List ℕ) → length xs ≤ i → out ++ entries_octets (drop i xs) ≡ done → out ≡ done
 written_all xs i out done h d = sym (append-nil out) ∙ (ap (λ ys. out ++ entries_octets ys) (sym (none_left xs i h)) ∙ d)

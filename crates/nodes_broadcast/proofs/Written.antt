@@ -1,25 +1,13 @@
 -- What is written for a broadcast spells it.
-use Rattle.std.proofs.Common.{◌≡◌, ◌+◌, ◌-◌, ◌*◌, ◌++◌, ◌∙◌, ℕ, refl, sym, ap, subst, List, [], ◌∷◌, length, take, drop, map, replicate, arith, append_assoc, length-take, length-drop}
+use Rattle.std.proofs.Common.{◌≡◌, ◌+◌, ◌-◌, ◌++◌, ◌∙◌, ℕ, refl, sym, ap, subst, List, [], ◌∷◌, length, take, drop, arith, append_assoc, length-take, length-drop}
 use Rattle.std.specs.List.{AllByRecursion}
-use Rattle.std.proofs.lemmas.List.{take_at, drop_at, length-append, length-map, length-replicate}
-use Rattle.ax_address.specs.Callsign.{Callsign, IsCallsign, name_in, padded}
+use Rattle.std.proofs.lemmas.List.{take_at, drop_at, length-append}
 use Rattle.ax_address.specs.Octets.{WrittenNetCallSpellsIt, SpellsNetCall, net_call_octets}
 use Rattle.ax_address.specs.declared.entry.Entry.{Entry}
+use Rattle.ax_address.proofs.NetCallLaws.{call_len}
 use Rattle.nodes_broadcast.specs.Nodes.{Broadcast, IsEntry, IsBroadcast, Spells, SpellsEntry, SpellsEntries, entry_octets, entries_octets, nodes_octets}
 use Rattle.nodes_broadcast.specs.Laws.{SpelledIsRead, WrittenSpellsIt, WrittenIsRead}
 use Rattle.nodes_broadcast.proofs.Spelled.{entry_len}
-
-abbrev pub doubles : List ℕ → List ℕ
-doubles letters = map (λ b. 2 * b) letters
-
-pub six_doubled : (c : Callsign) → IsCallsign c.letters c.ssid → length (doubles c.letters) ≡ 6
-six_doubled c h =
-    let name = name_in c.letters in
-    let six : length (padded name) ≡ 6 = omega (arith, length-append name (replicate (6 - length name) 32), length-replicate {A = ℕ} (6 - length name) 32, h.six) in
-    length-map c.letters (λ b. 2 * b) ∙ (ap length h.spaces ∙ six)
-
-call_len : (c : Callsign) → IsCallsign c.letters c.ssid → length (net_call_octets c) ≡ 7
-call_len c h = omega (arith, six_doubled c h, length-append (doubles c.letters) ((96 + 2 * c.ssid) ∷ []))
 
 -- two calls of seven octets, an alias of six and an octet, one after the other
 

@@ -1,7 +1,7 @@
 -- What a NODES broadcast says, the octets that spell it, and what octets are read as (NET/ROM, Appendix B).
-use Rattle.std.specs.Prelude.{ℕ, ◌≡◌, ◌≤◌, List, [], ◌∷◌, ◌++◌, length, take, drop, zero, suc, ◌+◌, ◌-◌, ◌/◌, ◌%◌, get_or, Bool, false, ◌&&◌, ◌==◌, nat_le, nat_lt, not, Option, Some, None, Result, Ok, Err, if◌then◌else◌}
+use Rattle.std.specs.Prelude.{ℕ, ◌≡◌, ◌≤◌, List, [], ◌∷◌, ◌++◌, length, take, drop, zero, suc, ◌+◌, ◌-◌, ◌/◌, ◌%◌, get_or, Bool, false, ◌&&◌, ◌==◌, nat_le, nat_lt, not, Option, Some, None, Result, Ok, Err, if◌then◌else◌, codes}
 use Rattle.std.specs.List.{AllByRecursion}
-use Rattle.ax_address.specs.Callsign.{IsCallsign, Callsign}
+use Rattle.ax_address.specs.Callsign.{IsCallsign, Callsign, padded}
 use Rattle.ax_address.specs.Octets.{SpellsNetCall, net_call_octets, net_call_at, refused_octet}
 use Rattle.ax_address.specs.declared.alias.Alias.{Alias}
 use Rattle.ax_address.specs.declared.entry.Entry.{Entry}
@@ -10,6 +10,10 @@ use Rattle.ax_address.specs.Results.{◌>>=◌}
 use Rattle.nodes_broadcast.specs.declared.nodes.Nodes.{Nodes}
 use Rattle.nodes_broadcast.specs.declared.nodes.NodesRefusal.{NodesRefusal}
 use Rattle.nodes_broadcast.specs.declared.nodes.NodesRefusal.TheVariants.{NotNodes, BadLength, TooMany, BadCall}
+
+-- the call to which nodes broadcast
+abbrev pub nodes_call : Callsign
+nodes_call = record { letters = padded (codes "NODES"); ssid = 0 }
 
 -- the sender's alias, and its entries in their order
 pub record Broadcast : Type 0 where

@@ -1,4 +1,4 @@
-//! What the definitions promise by themselves.
+//! Laws of the definitions of broadcasts alone. Called by `read` and `write`.
 
 ghost use Rattle.nodes_broadcast.specs.Faults.{FaultIsFirst};
 ghost use Rattle.nodes_broadcast.specs.Laws as law;

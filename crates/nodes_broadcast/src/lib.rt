@@ -9,6 +9,6 @@ mod nodes;
 mod read;
 mod write;
 
-pub use nodes::{Nodes, NodesRefusal};
+pub use nodes::{Nodes, NodesRefusal, nodes_call};
 pub use read::{read_nodes, read_nodes_into};
 pub use write::{push_nodes, write_nodes};

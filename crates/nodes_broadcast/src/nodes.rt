@@ -1,6 +1,9 @@
-//! A broadcast, and why octets are none (NET/ROM, Appendix B).
+//! A broadcast, to which call it goes, and why octets are none (NET/ROM, Appendix B).
+ghost use Rattle.std.specs.Prelude.{◌≡◌};
+ghost use Rattle.nodes_broadcast.specs.Nodes as reading;
+
 use arrayvec::ArrayVec;
-use ax_address::{Alias, Entry, MAX_ENTRIES};
+use ax_address::{Alias, Call, Entry, MAX_ENTRIES};
 
 /// The first octet of each broadcast.
 pub(crate) const SIGNATURE: u8 = 0xFF;
@@ -18,6 +21,14 @@ pub(crate) const ENTRY_LEN: usize = 21;
 pub struct Nodes {
     pub alias: Alias,
     pub entries: ArrayVec<Entry, MAX_ENTRIES>,
+}
+
+/// The call to which nodes broadcast.
+#[tactic(auto, using(crate::proofs::Names::nodes_is_call))]
+pub fn nodes_call() -> Call
+    ensures { result ≡ reading.nodes_call }
+{
+    Call::from_letters(*b"NODES ", 0)
 }
 
 /// Why octets are no NODES broadcast. What stands first comes first.

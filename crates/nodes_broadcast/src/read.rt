@@ -1,4 +1,4 @@
-//! Octets become broadcasts.
+//! Octets become broadcasts. Called by `node_core` and `frame_lines`.
 ghost use Rattle.std.specs.Prelude.{◌≡◌, ◌≤◌, ◌/◌, ◌%◌, [], ◌∷◌, length, take, IfOk, OnOk, OnErr, IfNone, IsOkAnd, MatchResult, Ok, Err, true};
 ghost use Rattle.nodes_broadcast.specs.Nodes.{Broadcast, view, Spells, SpellsEntry, SpellsEntries};
 ghost use Rattle.nodes_broadcast.specs.Nodes as reading;

@@ -1,4 +1,4 @@
-//! Broadcasts become octets.
+//! Broadcasts become octets. Called by `node_core`.
 ghost use Rattle.std.specs.Prelude.{◌≡◌, ◌≤◌, ◌+◌, ◌*◌, ◌++◌, length};
 ghost use Rattle.std.specs.List.{AllByRecursion};
 ghost use Rattle.nodes_broadcast.specs.Nodes.{Broadcast, view, Spells, IsEntry, nodes_octets, entries_octets, entry_octets};

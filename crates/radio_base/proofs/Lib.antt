@@ -1,3 +1,4 @@
 pub mod ClockLemmas
 pub mod MemoryLemmas
 pub mod Places
+pub mod Each

@@ -1,4 +1,4 @@
-//! The numbers of calls that fail, for sources and sinks in memory.
+//! The numbers of calls that fail, for sources and sinks in memory. Called by `mem_sink` and `mem_source`.
 ghost use Rattle.std.specs.Prelude.{◌≡◌, ◌↔◌, IsTrue};
 ghost use Rattle.radio_base.specs.Memory.{NextFails};
 

@@ -1,4 +1,4 @@
-//! Who tells moments.
+//! Who tells moments. Called by `cmd_streams` and `node_cmd`.
 ghost use Rattle.std.specs.Prelude.{◌≡◌, ◌≤◌, [], ◌∷◌, List, ℕ, Option};
 ghost use Rattle.radio_base.specs.Causes.{Gains, Ticking, moment_of, moments_told, after_moment};
 
@@ -10,7 +10,7 @@ pub trait Clock {
     /// The moments handed out, in order, where it tells them.
     ghost given: { Self → Option (List ℕ) };
 
-    /// A moment that none of those still to come lies before.
+    /// A lower bound of the moments that are still to come.
     ghost least: { Self → ℕ };
 
     /// The moment now. None that was handed out before is later.

@@ -1,4 +1,4 @@
-//! Numbers in decimal.
+//! Numbers in decimal. Called by `ax_frame`, `link_life` and crates above.
 ghost use Rattle.std.specs.Prelude.{◌≡◌, ◌≤◌, ◌+◌, ◌++◌, length};
 ghost use Rattle.std.specs.Fmt.{decimal};
 

@@ -1,4 +1,5 @@
-//! One of the two ways in which any call may fail for want of something outside: of a read or a write.
+//! One of the two ways in which any call may fail for want of something outside: of a read or a write. Used by `mem_sink`, `mem_source`,
+//! `sink` and `source`, and by `cmd_streams`.
 use std::error::Error;
 use std::fmt;
 

@@ -1,4 +1,4 @@
-//! What holds of the definitions alone.
+//! What holds of the definitions alone. No code calls them.
 ghost use Rattle.std.specs.Prelude.{◌≡◌, ◌^◌};
 ghost use Rattle.radio_base.specs.Modulus.{OnePlace};
 

@@ -1,4 +1,4 @@
-//! A sink in memory, which fails where it was told to.
+//! A sink in memory, which fails where it was told to. Called by tests.
 ghost use Rattle.std.specs.Prelude.{◌≡◌, ◌≤◌, ◌↔◌, Some, IsErr, IfOk, OnErr};
 ghost use Rattle.std.specs.Io.KnownBytes.{WriteAppends};
 ghost use Rattle.radio_base.specs.Causes.{HasCause};

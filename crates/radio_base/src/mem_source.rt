@@ -1,4 +1,4 @@
-//! A source in memory, which fails where it was told to.
+//! A source in memory, which fails where it was told to. Called by tests.
 ghost use Rattle.std.specs.Prelude.{◌≡◌, ◌≤◌, ◌+◌, ◌-◌, ◌↔◌, ◌++◌, [], Some, drop, take, min, length, IsErr, IfOk, OnErr};
 ghost use Rattle.std.specs.Io.{ReadsAtMost};
 ghost use Rattle.std.specs.Io.KnownBytes.{ReadConsumes};

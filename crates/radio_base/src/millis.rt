@@ -1,4 +1,4 @@
-//! Counts of milliseconds that can be added.
+//! Counts of milliseconds that can be added. Called by `ax_link` and `circuit_l4`.
 ghost use Rattle.std.specs.Prelude.{◌≡◌, ◌≤◌, ℕ, min};
 ghost use Rattle.radio_base.specs.declared.modulus.TheConstants.{COUNT_MAX};
 

@@ -1,6 +1,7 @@
-//! Numbers on the air, and their places in a window (AX.25 2.2, section 4.2.4).
-ghost use Rattle.std.specs.Prelude.{◌≡◌, ℕ, ◌+◌, ◌*◌, ◌%◌, ◌^◌, ◌<◌, ◌≤◌, IfSome, IfNone};
-ghost use Rattle.radio_base.specs.Modulus.{IsDistance, IsPlace, place_of};
+//! Numbers on the air, and their places in a window (AX.25 2.2, section 4.2.4). Called by `ax_frame`, `ax_link`, `link_table`, `circuit_l4`
+//! and crates above.
+ghost use Rattle.std.specs.Prelude.{◌≡◌, ◌==◌, ◌⊎◌, ℕ, ◌+◌, ◌*◌, ◌%◌, ◌^◌, ◌<◌, ◌≤◌, IfSome, IfNone};
+ghost use Rattle.radio_base.specs.Modulus.{IsDistance, IsPlace, extended_if, link_modulus, modulus_size, place_of};
 ghost use Rattle.std.proofs.Common.{arith};
 
 /// The highest count of fragments and payloads (this project's profile).
@@ -95,4 +96,46 @@ impl Modulus for M256 {
     ghost some = { Prim.omega arith };
 
     ghost octets = { Prim.omega arith };
+}
+
+/// What the numbers of a link and of its frames count modulo, where a value says it (AX.25 2.2, section 4.3.3).
+#[derive(Clone, Copy, Debug, PartialEq, Eq)]
+pub enum LinkModulus {
+    /// Modulo 8, as `M8` on a link that SABM has set up.
+    Modulo8,
+    /// Modulo 128, as `M128` on a link that SABME has set up: extended operation.
+    Modulo128,
+}
+
+impl LinkModulus {
+    /// The value for this type, which is `M8` or `M128`.
+    pub fn of<M: Modulus>() -> LinkModulus
+        requires { (M.SIZE ≡ 8) ⊎ (M.SIZE ≡ 128) }
+        ensures value { result ≡ link_modulus M.SIZE }
+        ensures size { modulus_size result ≡ M.SIZE }
+    {
+        if M::SIZE == 8 {
+            LinkModulus::Modulo8
+        } else {
+            LinkModulus::Modulo128
+        }
+    }
+
+    /// Whether it is modulo 128.
+    pub fn is_128(self) -> bool
+        ensures { result ≡ (modulus_size self == 128) }
+    {
+        matches!(self, LinkModulus::Modulo128)
+    }
+
+    /// Modulo 128 where this holds, else modulo 8.
+    pub fn extended_if(extended: bool) -> LinkModulus
+        ensures { result ≡ extended_if extended }
+    {
+        if extended {
+            LinkModulus::Modulo128
+        } else {
+            LinkModulus::Modulo8
+        }
+    }
 }

@@ -1,4 +1,5 @@
-//! One of the two ways in which any call may fail for want of something outside: of memory.
+//! One of the two ways in which any call may fail for want of something outside: of memory. Used by `mem_sink`, `mem_source` and `text`,
+//! and by `ax_frame`, `ax_segment` and crates above.
 ghost use Rattle.std.specs.Prelude.{◌≡◌};
 
 use std::alloc::{AllocError, AllocFailed};

@@ -1,4 +1,6 @@
-//! What an information frame carries.
+//! What an information frame carries. The machines of links make theirs by `Payload::of`.
+ghost use Rattle.std.specs.Prelude.{◌≡◌, ◌≤◌, length};
+
 use arrayvec::ArrayVec;
 
 /// The protocol of a text (AX.25 2.2, section 3.4) that belongs to NET/ROM.
@@ -18,4 +20,19 @@ pub const MAX_INFO: usize = 256;
 pub struct Payload {
     pub pid: u8,
     pub info: ArrayVec<u8, MAX_INFO>,
+}
+
+impl Payload {
+    /// A payload of these octets, which are put where it stands, so that they are copied once.
+    pub fn of(pid: u8, info: &[u8]) -> Payload
+        requires { length info.now ≤ 256 }
+        ensures { result ≡ record { pid = pid; info = record { items = info.now } } }
+    {
+        let mut payload = Payload {
+            pid,
+            info: ArrayVec::new(),
+        };
+        let _ = payload.info.try_extend_from_slice(info);
+        payload
+    }
 }

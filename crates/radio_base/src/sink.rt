@@ -1,4 +1,4 @@
-//! Where bytes go, as a trait.
+//! Where bytes go, as a trait. Called by `mem_sink`, and by `cmd_streams`, `tool_cmd` and crates above.
 ghost use Rattle.std.specs.Prelude.{List, ℕ, Option};
 ghost use Rattle.std.specs.Io.KnownBytes.{WriteAppends};
 ghost use Rattle.radio_base.specs.Causes.{HasCause};

@@ -1,4 +1,4 @@
-//! Where bytes come from, as a trait.
+//! Where bytes come from, as a trait. Called by `mem_source`, and by `cmd_streams`, `tool_cmd` and crates above.
 ghost use Rattle.std.specs.Prelude.{List, ℕ, Option};
 ghost use Rattle.std.specs.Io.{ReadsAtMost};
 ghost use Rattle.std.specs.Io.KnownBytes.{ReadConsumes};

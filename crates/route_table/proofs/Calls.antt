@@ -1,55 +1,16 @@
 -- Calls compared: `==` on them is equality, and their order is total.
-use Rattle.std.proofs.Common.{◌≡◌, ◌∙◌, ℕ, refl, sym, ap, List, [], ◌∷◌, Bool, true, false, cond}
-use Rattle.std.specs.Prelude.{◌&&◌, ◌==◌, nat_eq, nat_lt}
+use Rattle.std.proofs.Common.{◌≡◌, ◌∙◌, ℕ, refl, sym, ap, Bool, true, false, cond}
+use Rattle.std.specs.Prelude.{◌==◌, nat_lt}
 use Rattle.std.specs.Cmp.{IsTotalOrder}
-use Rattle.std.specs.Cmp.Lexicographic.{pointwise, slice_cmp}
+use Rattle.std.specs.Cmp.Lexicographic.{slice_cmp}
 use Rattle.std.specs.Ordering.{nat_cmp, ordering_then, ordering_reverse, is_lt}
 use Rattle.std.specs.declared.cmp.Ordering.{Ordering}
 use Rattle.std.specs.declared.cmp.Ordering.TheVariants.{Less, Equal, Greater}
-use Rattle.std.proofs.lemmas.Bool.{eqb-true, eq-eqb}
+use Rattle.std.proofs.lemmas.Bool.{eqb-true}
 use Rattle.std.proofs.lemmas.Cmp.{then_total, on_total, nat_cmp_total, nat_list_cmp_total, tied_itself}
 use Rattle.std.proofs.lemmas.Map.Lookups.{exact_bytes}
 use Rattle.ax_address.specs.Callsign.{Callsign, same_call, call_cmp, call_lt}
-
-pub and_true : (a b : Bool) → (a && b) ≡ true → (a ≡ true) × (b ≡ true)
-and_true true true h = (refl, refl)
-and_true true false h = absurd (cc)
-and_true false b h = absurd (cc)
-
-same_letters : (xs ys : List ℕ) → pointwise nat_eq xs ys ≡ true → xs ≡ ys
-same_letters [] [] h = refl
-same_letters [] (y ∷ ys) h = absurd (cc)
-same_letters (x ∷ xs) [] h = absurd (cc)
-same_letters (x ∷ xs) (y ∷ ys) h =
-    let p = and_true (nat_eq x y) (pointwise nat_eq xs ys) h in
-    let e : x ≡ y = eqb-true x y p.0 in
-    let f : xs ≡ ys = same_letters xs ys p.1 in
-    cc
-
-pub same_call-true : (a b : Callsign) → same_call a b ≡ true → a ≡ b
-same_call-true a b h =
-    let p = and_true (pointwise nat_eq a.letters b.letters) (nat_eq a.ssid b.ssid) h in
-    let e : a.letters ≡ b.letters = same_letters a.letters b.letters p.0 in
-    let f : a.ssid ≡ b.ssid = eqb-true a.ssid b.ssid p.1 in
-    λ i. record { letters = e i; ssid = f i }
-
-same_letters_refl : (xs : List ℕ) → pointwise nat_eq xs xs ≡ true
-same_letters_refl [] = refl
-same_letters_refl (x ∷ xs) = let e : nat_eq x x ≡ true = eq-eqb x x refl in rw e (same_letters_refl xs)
-
-pub same_call_refl : (a : Callsign) → same_call a a ≡ true
-same_call_refl a = let e : nat_eq a.ssid a.ssid ≡ true = eq-eqb a.ssid a.ssid refl in rw (same_letters_refl a.letters, e) refl
-
-pub same_call-equal : (a b : Callsign) → a ≡ b → same_call a b ≡ true
-same_call-equal a b e = ap (same_call a) (sym e) ∙ same_call_refl a
-
-apart_case : (a b : Callsign) (t : Bool) → same_call b a ≡ t → same_call a b ≡ false → t ≡ false
-apart_case a b false s h = refl
-apart_case a b true s h = let e = same_call-equal a b (sym (same_call-true b a s)) in cc
-
--- calls that differ do so either way round
-pub apart_sym : (a b : Callsign) → same_call a b ≡ false → same_call b a ≡ false
-apart_sym a b h = apart_case a b (same_call b a) refl h
+use Rattle.ax_address.proofs.SameCalls.{same_call-true, same_call-equal}
 
 pub call_total : IsTotalOrder call_cmp
 call_total = then_total (on_total (λ (c : Callsign). c.letters) nat_list_cmp_total) (on_total (λ (c : Callsign). c.ssid) nat_cmp_total)

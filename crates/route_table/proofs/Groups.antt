@@ -7,6 +7,7 @@ use Rattle.std.proofs.lemmas.List.Elements.{All-from_recursion}
 use Rattle.std.proofs.lemmas.List.Kept.{AllPairs-cons}
 use Rattle.ax_address.specs.Callsign.{Callsign, same_call, call_lt}
 use Rattle.ax_address.specs.declared.entry.Entry.{Entry}
+use Rattle.ax_address.proofs.SameCalls.{same_call-true, call_refl}
 use Rattle.route_table.specs.declared.route.Route.{Route}
 use Rattle.route_table.specs.declared.route.RouteRules.{RouteRules}
 use Rattle.route_table.specs.Log.{Item}
@@ -14,7 +15,7 @@ use Rattle.route_table.specs.Table.{Rise, entry_by, is_to, usable, table, destin
 use Rattle.route_table.specs.Rows as rows
 use Rattle.route_table.specs.Rows.{calls_of, best_of, entry_from}
 use Rattle.route_table.specs.Places.{InRows}
-use Rattle.route_table.proofs.Calls.{same_call-true, same_call_refl, call_lt_trans, call_lt_equal, call_lt_total}
+use Rattle.route_table.proofs.Calls.{call_lt_trans, call_lt_equal, call_lt_total}
 use Rattle.route_table.proofs.Sorting.{Ahead, in_order_rows}
 use Rattle.route_table.proofs.Placing.{Higher, higher_all, none_to_higher, not_to_lower, drop_rows, NotLower, none_lower}
 use Rattle.route_table.proofs.Twice.{usable_once}
@@ -65,7 +66,7 @@ pub first_not_lower : (r : Route) (rs : List Route) → InRows (r ∷ rs) → No
 first_not_lower r rs h = none_lower r.dest r rs (call_lt_equal r.dest r.dest refl) h.0
 
 pub group_is : (r : Route) (rs : List Route) → InRows (r ∷ rs) → filter (is_to r.dest) (r ∷ rs) ≡ r ∷ take (run r.dest rs) rs
-group_is r rs h = rw (same_call_refl r.dest) (ap (λ ys. r ∷ ys) (run_is r.dest rs h.1 (first_not_lower r rs h)))
+group_is r rs h = rw (call_refl r.dest) (ap (λ ys. r ∷ ys) (run_is r.dest rs h.1 (first_not_lower r rs h)))
 
 -- the rows to a higher destination are behind the run
 
@@ -85,7 +86,7 @@ past_group : (r : Route) (rs : List Route) (d : Callsign) → call_lt r.dest d �
 past_group r rs d l = let z : run r.dest (r ∷ rs) ≡ suc (run r.dest rs) = one in past_run r.dest d (r ∷ rs) l ∙ ap (λ n. filter (is_to d) (drop n (r ∷ rs))) z
   where
     one : run r.dest (r ∷ rs) ≡ suc (run r.dest rs)
-    one = rw (same_call_refl r.dest) (omega arith)
+    one = rw (call_refl r.dest) (omega arith)
 
 -- destinations rise
 
@@ -214,7 +215,7 @@ few_of_first (x ∷ xs) r h =
     ∙ (run_of_few x.dest 3 (x ∷ xs) ∙ ap (take 3) whole)
   where
     whole : take (run x.dest (x ∷ xs)) (x ∷ xs) ≡ x ∷ take (run x.dest xs) xs
-    whole = let z : 1 + run x.dest xs ≡ suc (run x.dest xs) = omega arith in rw (same_call_refl x.dest, z) refl
+    whole = let z : 1 + run x.dest xs ≡ suc (run x.dest xs) = omega arith in rw (call_refl x.dest, z) refl
 
 pub first_of : (c : Callsign) (cs all : List Callsign) (i : ℕ) → i ≡ 0 → all ≡ c ∷ cs → Some c ≡ slice_get all i
 first_of c cs all i h e = rw (h, e) refl

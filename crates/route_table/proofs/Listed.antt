@@ -5,12 +5,12 @@ use Rattle.std.specs.List.{list_any, dedup_from}
 use Rattle.std.proofs.lemmas.List.Sorted.{list_any-IsPermutation}
 use Rattle.std.proofs.lemmas.List.Folds.{Any-from_list_any, list_any-from_Any}
 use Rattle.ax_address.specs.Callsign.{Callsign, same_call}
+use Rattle.ax_address.proofs.SameCalls.{same_call-true, call_refl, same_call-equal}
 use Rattle.route_table.specs.declared.route.Route.{Route}
 use Rattle.route_table.specs.declared.route.RouteRules.{RouteRules}
 use Rattle.route_table.specs.Log.{Item}
 use Rattle.route_table.specs.Rows.{calls_of}
 use Rattle.route_table.specs.Table.{usable, table, destinations}
-use Rattle.route_table.proofs.Calls.{same_call-true, same_call_refl, same_call-equal}
 use Rattle.route_table.proofs.Sorting.{in_order_moves}
 
 abbrev pub among : Callsign → List Callsign → Bool
@@ -46,7 +46,7 @@ pub destinations_among : (rules : RouteRules) (log : List Item) (c : Callsign) �
 destinations_among rules log c = calls_among c (table rules log) ∙ leads_table rules log c
 
 contained : (c : Callsign) (ds : List Callsign) → Contains ds c → among c ds ≡ true
-contained c ds h = list_any-from_Any (λ d. same_call d c) ds (h.0, c, h.1, h.2, same_call_refl c)
+contained c ds h = list_any-from_Any (λ d. same_call d c) ds (h.0, c, h.1, h.2, call_refl c)
 
 contains : (c : Callsign) (ds : List Callsign) → among c ds ≡ true → Contains ds c
 contains c ds h =

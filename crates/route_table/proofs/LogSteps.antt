@@ -5,15 +5,17 @@ use Rattle.std.specs.List.{list_any, AllByRecursion}
 use Rattle.std.proofs.lemmas.List.Elements.{filter-append}
 use Rattle.std.proofs.lemmas.List.Folds.{list_any-append}
 use Rattle.std.proofs.lemmas.Bool.Decides.{nat_tests}
+use Rattle.std.proofs.lemmas.Bool.{and_parts}
+use Rattle.std.proofs.Math.Bool.{or-false}
 use Rattle.ax_address.specs.Callsign.{Callsign, same_call}
 use Rattle.ax_address.specs.declared.alias.Alias.{Alias}
+use Rattle.ax_address.proofs.SameCalls.{same_call-true}
 use Rattle.route_table.specs.declared.route.Route.{Route}
 use Rattle.route_table.specs.declared.route.RouteRules.{RouteRules}
 use Rattle.route_table.specs.Log.{Item, Report, Lock, Round, Failure}
 use Rattle.route_table.specs.Table.{is_report_of, is_lock_of, is_failure_of, rounds, is_live, live_of, live_among, live, is_good, usable}
 use Rattle.route_table.specs.Held.{IsGoodLock}
 use Rattle.route_table.specs.Rows.{is_same_pair, fresh, stays, new_rows, rows_with, older, still_counts, after_round, outlives}
-use Rattle.route_table.proofs.Calls.{and_true, same_call-true}
 
 abbrev pub row : Callsign → Alias → Callsign → ℕ → ℕ → Route
 row d a n q c = record { dest = d; alias = a; neighbour = n; quality = q; count = Some c }
@@ -34,10 +36,6 @@ rounds-append (Report d a n q ∷ xs) ys = rounds-append xs ys
 rounds-append (Lock d a n q ∷ xs) ys = rounds-append xs ys
 rounds-append (Round ∷ xs) ys = omega (arith, rounds-append xs ys)
 rounds-append (Failure n ∷ xs) ys = rounds-append xs ys
-
-or_false : (b : Bool) → (b || false) ≡ b
-or_false true = refl
-or_false false = refl
 
 -- a route that more items end where S holds
 pub keep_if : (keep : Route → Bool) (r : Route) (S T : Bool) → keep r ≡ not S → cond (T && not S) (r ∷ []) [] ≡ filter keep (cond T (r ∷ []) [])
@@ -219,7 +217,7 @@ lock_case good f r false S X rest g e x h = rw (g, e, x) refl
 
 later_lock : (d n e m : Callsign) (xs : List Item) → list_any (is_lock_of e m) xs ≡ true → (same_call d e && same_call n m) ≡ true → list_any (is_lock_of d n) xs ≡ true
 later_lock d n e m xs b s =
-    let p = and_true (same_call d e) (same_call n m) s in
+    let p = and_parts (same_call d e) (same_call n m) s in
     let de : d ≡ e = same_call-true d e p.0 in
     let nm : n ≡ m = same_call-true n m p.1 in
     rw (de, nm) b
@@ -285,7 +283,7 @@ usable-failure rules n log = rw (live-failure rules.life n log) (filter_comm (is
 locks_known : (rules : RouteRules) (log more : List Item) → AllByRecursion (IsGoodLock rules.minq) log → AllByRecursion IsReport more → (d n : Callsign) → list_any (is_lock_of d n) (log ++ more) ≡ list_any (is_locked d n) (usable rules log)
 locks_known rules log more g h d n =
     list_any-append (is_lock_of d n) log more
-    ∙ (ap (λ t. list_any (is_lock_of d n) log || t) (reports_no_lock d n more h) ∙ (or_false (list_any (is_lock_of d n) log) ∙ locks_show rules.life rules.minq log d n log g))
+    ∙ (ap (λ t. list_any (is_lock_of d n) log || t) (reports_no_lock d n more h) ∙ (or-false (list_any (is_lock_of d n) log) ∙ locks_show rules.life rules.minq log d n log g))
 
 pub usable-reports : (rules : RouteRules) (log more : List Item) → 1 ≤ rules.life → AllByRecursion (IsGoodLock rules.minq) log → AllByRecursion IsReport more → usable rules (log ++ more) ≡ rows_with rules.minq (fresh rules.life more) (usable rules log)
 usable-reports rules log more l g h =

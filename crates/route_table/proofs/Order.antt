@@ -1,17 +1,19 @@
 -- The order of routes is total on pairs that differ.
-use Rattle.std.proofs.Common.{◌≡◌, ◌∙◌, ℕ, refl, sym, ap, Bool, true, false, cond}
+use Rattle.std.proofs.Common.{◌≡◌, ◌∙◌, refl, sym, ap, Bool, true, false, cond}
 use Rattle.std.specs.Prelude.{◌&&◌, ◌||◌, ◌==◌, nat_lt}
 use Rattle.std.specs.Cmp.{IsTotalOrder}
 use Rattle.std.specs.Ordering.{nat_cmp, ordering_then, ordering_reverse, is_lt}
 use Rattle.std.specs.declared.cmp.Ordering.{Ordering}
 use Rattle.std.specs.declared.cmp.Ordering.TheVariants.{Less, Equal, Greater}
-use Rattle.std.proofs.lemmas.Bool.{eqb-true, eq-eqb}
+use Rattle.std.proofs.lemmas.Bool.{and_parts}
 use Rattle.std.proofs.lemmas.Cmp.{then_total, on_total, back_total, nat_cmp_total, tied_itself}
 use Rattle.ax_address.specs.Callsign.{Callsign, same_call, call_lt, call_cmp}
+use Rattle.ax_address.proofs.SameCalls.{same_call-true, same_call-equal}
+use Rattle.ax_address.proofs.SameNumbers.{nat_case}
 use Rattle.route_table.specs.declared.route.Route.{Route}
 use Rattle.route_table.specs.Table.{is_before, stands_before}
 use Rattle.route_table.specs.Rows.{is_same_pair}
-use Rattle.route_table.proofs.Calls.{and_true, same_call-true, same_call-equal, call_total, call_cmp-Equal, then_equal, less_from_lt, greater_apart}
+use Rattle.route_table.proofs.Calls.{call_total, call_cmp-Equal, then_equal, less_from_lt, greater_apart}
 
 abbrev rank_cmp : Route → Route → Ordering
 rank_cmp a b = ordering_then (nat_cmp b.quality a.quality) (call_cmp a.neighbour b.neighbour)
@@ -25,12 +27,6 @@ rank_total = then_total (on_total (λ (r : Route). r.quality) (back_total nat_cm
 row_total : IsTotalOrder row_cmp
 row_total = then_total (on_total (λ (r : Route). r.dest) call_total) rank_total
 
-eq_sym : (a b : ℕ) (t u : Bool) → (a == b) ≡ t → (b == a) ≡ u → t ≡ u
-eq_sym a b true true p q = refl
-eq_sym a b false false p q = refl
-eq_sym a b true false p q = let e = eq-eqb b a (sym (eqb-true a b p)) in cc
-eq_sym a b false true p q = let e = eq-eqb a b (sym (eqb-true b a q)) in cc
-
 first_or_both : (L E : Bool) (o : Ordering) → (L || (E && is_lt o)) ≡ is_lt (ordering_then (cond L Less (cond E Equal Greater)) o)
 first_or_both true E o = refl
 first_or_both false true o = refl
@@ -38,7 +34,7 @@ first_or_both false false o = refl
 
 is_before-cmp : (a b : Route) → is_before a b ≡ is_lt (rank_cmp a b)
 is_before-cmp a b =
-    ap (λ e. nat_lt b.quality a.quality || (e && call_lt a.neighbour b.neighbour)) (eq_sym a.quality b.quality (a.quality == b.quality) (b.quality == a.quality) refl refl)
+    ap (λ e. nat_lt b.quality a.quality || (e && call_lt a.neighbour b.neighbour)) (nat_case a.quality b.quality (a.quality == b.quality) (b.quality == a.quality) refl refl)
     ∙ first_or_both (nat_lt b.quality a.quality) (b.quality == a.quality) (call_cmp a.neighbour b.neighbour)
 
 stands_case : (a b : Callsign) (o p : Ordering) (S : Bool) → call_cmp a b ≡ o → same_call a b ≡ S → (is_lt o || (S && is_lt p)) ≡ is_lt (ordering_then o p)
@@ -86,7 +82,7 @@ stands_total a b h s = stands-cmp b a ∙ ap is_lt (total_case a b (row_cmp a b)
 
 pub same_pair_true : (a b : Route) → is_same_pair a b ≡ true → (a.dest ≡ b.dest) × (a.neighbour ≡ b.neighbour)
 same_pair_true a b h =
-    let p = and_true (same_call a.dest b.dest) (same_call a.neighbour b.neighbour) h in
+    let p = and_parts (same_call a.dest b.dest) (same_call a.neighbour b.neighbour) h in
     (same_call-true a.dest b.dest p.0, same_call-true a.neighbour b.neighbour p.1)
 
 pub same_pair_equal : (a b : Route) → a.dest ≡ b.dest → a.neighbour ≡ b.neighbour → is_same_pair a b ≡ true

@@ -9,11 +9,12 @@ use Rattle.std.proofs.lemmas.List.Sums.{prefix_len_is, prefix_len_stops}
 use Rattle.std.proofs.lemmas.List.Folds.{list_any_more}
 use Rattle.std.proofs.lemmas.List.{take_all, take-append-le}
 use Rattle.ax_address.specs.Callsign.{Callsign, same_call, call_lt}
+use Rattle.ax_address.proofs.SameCalls.{same_call-true, apart_sym}
 use Rattle.route_table.specs.declared.route.Route.{Route}
 use Rattle.route_table.specs.Table.{is_before, stands_before, placed, is_to}
 use Rattle.route_table.specs.Rows.{is_same_pair}
 use Rattle.route_table.specs.Places.{InRows, start_of, place_among}
-use Rattle.route_table.proofs.Calls.{same_call-true, apart_sym, call_lt_trans, call_lt_equal, call_lt_total}
+use Rattle.route_table.proofs.Calls.{call_lt_trans, call_lt_equal, call_lt_total}
 use Rattle.route_table.proofs.Order.{stands_trans, stands_asym}
 use Rattle.route_table.proofs.Sorting.{Ahead, pairs_from_rows}
 

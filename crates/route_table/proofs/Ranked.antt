@@ -5,12 +5,13 @@ use Rattle.std.specs.List.{AllByRecursion}
 use Rattle.std.proofs.lemmas.List.Elements.{All-from_recursion}
 use Rattle.std.proofs.lemmas.List.Kept.{AllPairs-cons}
 use Rattle.ax_address.specs.Callsign.{Callsign, same_call, call_lt}
+use Rattle.ax_address.proofs.SameCalls.{same_call-true}
 use Rattle.route_table.specs.declared.route.Route.{Route}
 use Rattle.route_table.specs.declared.route.RouteRules.{RouteRules}
 use Rattle.route_table.specs.Log.{Item}
 use Rattle.route_table.specs.Table.{is_before, stands_before, usable, table, is_to, all_routes_to}
 use Rattle.route_table.specs.Places.{InRows}
-use Rattle.route_table.proofs.Calls.{same_call-true, call_lt_equal}
+use Rattle.route_table.proofs.Calls.{call_lt_equal}
 use Rattle.route_table.proofs.Sorting.{Ahead, in_order_rows, in_order_moves, filter_moves}
 use Rattle.route_table.proofs.Twice.{usable_once}
 

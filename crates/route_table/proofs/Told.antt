@@ -4,6 +4,7 @@ use Rattle.std.specs.Prelude.{Option, Some, None, slice_get, filter_map, AllPair
 use Rattle.std.specs.List.{cons_option, AllByRecursion}
 use Rattle.std.proofs.lemmas.List.Elements.{All-from_recursion}
 use Rattle.std.proofs.lemmas.List.Kept.{AllPairs-cons}
+use Rattle.std.proofs.lemmas.Bool.{or_parts}
 use Rattle.ax_address.specs.Callsign.{Callsign, same_call, call_lt}
 use Rattle.ax_address.specs.declared.entry.Entry.{Entry}
 use Rattle.route_table.specs.declared.route.Route.{Route}
@@ -13,7 +14,7 @@ use Rattle.route_table.specs.Table.{usable, table, is_to, routes_to, destination
 use Rattle.route_table.specs.Laws.{TellsFirstRoute}
 use Rattle.route_table.proofs.Groups.{Below, InOrder, calls_rise}
 use Rattle.route_table.proofs.Sorting.{in_order_rows}
-use Rattle.route_table.proofs.Twice.{or_parts, usable_once}
+use Rattle.route_table.proofs.Twice.{usable_once}
 use Rattle.route_table.proofs.Listed.{leads, leading, leads_table, destinations_exact}
 
 abbrev said : Callsign → Route → Entry

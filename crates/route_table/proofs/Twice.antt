@@ -3,27 +3,20 @@ use Rattle.std.proofs.Common.{◌≡◌, ◌++◌, ◌∙◌, ℕ, refl, sym, ap
 use Rattle.std.specs.Prelude.{◌&&◌, ◌||◌, not, nat_lt, AllPairs}
 use Rattle.std.specs.List.{list_any, AllByRecursion}
 use Rattle.std.proofs.lemmas.List.Folds.{list_any-append}
+use Rattle.std.proofs.lemmas.Bool.{and_parts, or_parts, or_right}
 use Rattle.ax_address.specs.Callsign.{Callsign, same_call}
 use Rattle.ax_address.specs.declared.alias.Alias.{Alias}
+use Rattle.ax_address.proofs.SameCalls.{same_call-true, call_refl}
 use Rattle.route_table.specs.declared.route.Route.{Route}
 use Rattle.route_table.specs.declared.route.RouteRules.{RouteRules}
 use Rattle.route_table.specs.Log.{Item, Report, Lock, Round, Failure}
 use Rattle.route_table.specs.Table.{is_report_of, is_lock_of, is_failure_of, rounds, is_live, live_among, live, AreInOrder, is_good, usable, table}
 use Rattle.route_table.specs.Rows.{is_same_pair}
 use Rattle.route_table.specs.Places.{NoneTwice}
-use Rattle.route_table.proofs.Calls.{and_true, same_call-true, same_call_refl}
 use Rattle.route_table.proofs.Sorting.{filter_once, in_order_rows, pairs_from_rows, pairs_from_once}
 
 abbrev OffPair : Callsign → Callsign → Route → Type 0
 OffPair d n s = (same_call d s.dest && same_call n s.neighbour) ≡ false
-
-pub or_parts : (a b : Bool) → (a || b) ≡ false → (a ≡ false) × (b ≡ false)
-or_parts true b h = absurd (cc)
-or_parts false b h = (refl, h)
-
-or_true : (a b : Bool) → b ≡ true → (a || b) ≡ true
-or_true true b h = refl
-or_true false b h = h
 
 all_case : (P : Route → Type 0) (T : Bool) (r : Route) (rest : List Route) → (T ≡ true → P r) → AllByRecursion P rest → AllByRecursion P (cond T (r ∷ []) [] ++ rest)
 all_case P true r rest p h = (p refl, h)
@@ -53,7 +46,7 @@ live_unlocked false false F W h = (refl, refl)
 locked_case : (d n e m : Callsign) (log : List Item) (S : Bool) → (same_call d e && same_call n m) ≡ S → list_any (is_lock_of d n) log ≡ true → list_any (is_lock_of e m) log ≡ false → S ≡ false
 locked_case d n e m log false s l k = refl
 locked_case d n e m log true s l k =
-    let p = and_true (same_call d e) (same_call n m) s in
+    let p = and_parts (same_call d e) (same_call n m) s in
     let de = same_call-true d e p.0 in
     let nm = same_call-true n m p.1 in
     let same : list_any (is_lock_of d n) log ≡ list_any (is_lock_of e m) log = rw (de, nm) refl in
@@ -89,7 +82,7 @@ is_locked_there : (d n : Callsign) (a : Alias) (q : ℕ) (log pre xs : List Item
 is_locked_there d n a q log pre xs e =
     ap (list_any (is_lock_of d n)) e
     ∙ (list_any-append (is_lock_of d n) pre (Lock d a n q ∷ xs)
-    ∙ or_true (list_any (is_lock_of d n) pre) ((same_call d d && same_call n n) || list_any (is_lock_of d n) xs) (rw (same_call_refl d, same_call_refl n) refl))
+    ∙ or_right (list_any (is_lock_of d n) pre) ((same_call d d && same_call n n) || list_any (is_lock_of d n) xs) (rw (call_refl d, call_refl n) refl))
 
 next_part : (log pre xs : List Item) (x : Item) → log ≡ pre ++ x ∷ xs → log ≡ (pre ++ x ∷ []) ++ xs
 next_part log pre xs x e = e ∙ sym (append_assoc pre (x ∷ []) xs)

@@ -3,6 +3,7 @@ use Rattle.std.proofs.Common.{◌≡◌, ◌≤◌, ◌<◌, ◌+◌, ◌-◌, �
 use Rattle.std.specs.Prelude.{not, ◌||◌, is_none, slice_set}
 use Rattle.std.specs.List.{list_any, AllByRecursion, copy_within}
 use Rattle.std.proofs.lemmas.List.{length-append, length-take-le, take-append-le, take-take, drop_at, drop-take, set_split}
+use Rattle.std.proofs.lemmas.Bool.{or_parts, not-true}
 use Rattle.ax_address.specs.Callsign.{same_call}
 use Rattle.ax_address.specs.declared.entry.Entry.{Entry}
 use Rattle.route_table.specs.declared.sender.Sender.{Sender}
@@ -15,7 +16,6 @@ use Rattle.route_table.proofs.Sorting.{Apart, placed_all, placed_rows, filter_al
 use Rattle.route_table.proofs.Changing.{beside_apart, beside_none, no_lock, apart_none, ahead_at, report_stand, placed_once}
 use Rattle.route_table.proofs.Counting.{any_placed}
 use Rattle.route_table.proofs.Placing.{placed-insert, take_rows}
-use Rattle.route_table.proofs.Twice.{or_parts}
 
 -- two routes of different pairs take their places in whichever order
 
@@ -163,14 +163,10 @@ kept_items minq r xs rows h k =
     cases true = placed_among r (beside r xs) rows (beside_apart r xs)
     cases false = refl
 
-not_true : (b : Bool) → not b ≡ true → b ≡ false
-not_true false h = refl
-not_true true h = absurd (cc)
-
 -- an entry that reports a route is taken in as that route
 pub entry_told : (minq : ℕ) (s : Sender) (e : Entry) (later : List Entry) (rows now : List Route) → not (same_call e.dest s.own || same_call e.dest s.neighbour) ≡ true
     → now ≡ with_report minq (route_over s e) rows → after_reports minq (reported_by s later) now ≡ after_reports minq (reported_by s (e ∷ later)) rows
-entry_told minq s e later rows now h k = let other = not_true (same_call e.dest s.own || same_call e.dest s.neighbour) h in rw (other, k) refl
+entry_told minq s e later rows now h k = let other = not-true (same_call e.dest s.own || same_call e.dest s.neighbour) h in rw (other, k) refl
 
 -- such a report becomes a row if it is good enough, and else changes nothing
 

@@ -1,4 +1,4 @@
-//! What the definitions of a log's table come to, in the words of the subject.
+//! What the definitions of a log's table come to, in the words of the subject. No code calls them.
 
 ghost use Rattle.route_table.specs.Laws as law;
 

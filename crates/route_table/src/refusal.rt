@@ -1,4 +1,4 @@
-//! Why a table refuses.
+//! Why a table refuses. Used by `table`, and by `node_core`.
 use std::alloc::AllocError;
 
 /// Why a route was not locked in. What stands first comes first.

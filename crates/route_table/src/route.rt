@@ -1,4 +1,4 @@
-//! A route, and the rules of a table.
+//! A route, and the rules of a table. Used by most files here, and by `node_prompt`, `node_core` and crates above.
 use ax_address::{Alias, Call};
 
 /// How many usable routes a table holds at most (this project's profile).

@@ -1,4 +1,4 @@
-//! Who sends a broadcast.
+//! Who sends a broadcast. Used by `entering`, `reports`, `rows` and `table`.
 use ax_address::{Alias, Call};
 
 /// What all reports of a broadcast have in common: who hears it of whom, and for how many rounds a report lives.

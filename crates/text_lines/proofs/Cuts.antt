@@ -35,7 +35,7 @@ one_part (x ∷ xs) e = none_step (x == 10) x (position_or_len (λ b. b == 10) x
 kept_last : (n : ℕ) (text : List ℕ) → 0 < n → cond (n == 0) [] (text ∷ []) ≡ text ∷ []
 kept_last n text h = let e : (n == 0) ≡ false = grind (arith, nat_tests) in rw e refl
 
-nowhere : (b : Bool) (n : ℕ) → None ≡ cond b (Some n) None → b ≡ false
+pub nowhere : (b : Bool) (n : ℕ) → None ≡ cond b (Some n) None → b ≡ false
 nowhere true n e = cc
 nowhere false n e = refl
 

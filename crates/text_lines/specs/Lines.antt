@@ -9,6 +9,13 @@ use Rattle.std.specs.Borrow.{Bor}
 abbrev pub is_text : List ℕ → Bool
 is_text line = list_all (λ b. nat_le 32 b && nat_le b 126) line
 
+-- a byte that is no character from 0x20 to 0x7E is shown as a point
+abbrev pub shown_byte : ℕ → ℕ
+shown_byte b = if nat_le 32 b && nat_le b 126 then b else 46
+
+abbrev pub shown_text : List ℕ → List ℕ
+shown_text bytes = map shown_byte bytes
+
 -- an empty line, or a comment
 abbrev pub is_skipped : List ℕ → Bool
 is_skipped line = (length line == 0) || (slice_index line 0 == 35)

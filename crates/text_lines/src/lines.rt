@@ -1,4 +1,5 @@
-//! The lines of a text: those that end with a line feed, and what stands behind the last one. Own profile.
+//! The lines of a text: those that end with a line feed, and what stands behind the last one. Own profile. Called by `link_life`,
+//! `network_file` and `trace_lines`.
 ghost use Rattle.std.specs.Prelude.{◌≡◌, ◌<◌, ◌==◌, ◌∷◌, length, IfSome};
 ghost use Rattle.std.specs.List.{position};
 ghost use Rattle.std.specs.Str.Lines.{lines, strip_carriage_return};

@@ -1,4 +1,4 @@
-//! The numbers that words spell: decimal digits without a leading zero. Own profile.
+//! The numbers that words spell: decimal digits without a leading zero. Own profile. Called by `link_life` and `network_file`.
 ghost use Rattle.std.specs.Prelude.{◌≡◌, nat_le, Some, None, if◌then◌else◌};
 ghost use Rattle.std.specs.List.{list_all};
 ghost use Rattle.text_lines.specs.Lines as numbers;

@@ -1,4 +1,4 @@
-//! The words of a line, which spaces part. Own profile.
+//! The words of a line, which spaces part. Own profile. Called by `link_life` and `network_file`.
 ghost use Rattle.std.specs.Prelude.{◌≡◌, ◌<◌, ◌==◌, ◌∷◌, [], None, Some, length, IfOk, IfSome, MatchOption};
 ghost use Rattle.std.specs.List.{slice_split, position};
 ghost use Rattle.text_lines.specs.Lines as words;

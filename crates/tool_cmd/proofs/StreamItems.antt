@@ -1,12 +1,8 @@
 -- Lines and items, as they come.
-use Rattle.std.proofs.Common.{◌≡◌, ◌++◌, ◌∙◌, ◌-◌, take, drop, take_all, length-drop, arith, ℕ, List, [], ◌∷◌, sym, ap, subst, append_assoc, append-nil, length}
+use Rattle.std.proofs.Common.{◌≡◌, ◌++◌, ◌∙◌, ◌-◌, ℕ, List, [], ◌∷◌, sym, ap, subst, append_assoc}
 use Rattle.kiss_framing.specs.Stream.{Item}
 use Rattle.frame_lines.specs.Listing.{Lists}
 use Rattle.std.proofs.lemmas.List.{append_cancel_left}
-
--- a slice from a place on is all that stands there
-pub rest_of : {A : Type 0} (n : ℕ) (xs : List A) → take (length xs - n) (drop n xs) ≡ drop n xs
-rest_of n xs = take_all (length xs - n) (drop n xs) (omega (arith, length-drop n xs))
 
 -- the lines of items one after another
 pub lists-append : (size : ℕ) (is js : List Item) (a b : List ℕ) → Lists size is a → Lists size js b → Lists size (is ++ js) (a ++ b)

@@ -5,8 +5,8 @@ use Rattle.std.specs.Fmt.{decimal}
 use Rattle.std.proofs.lemmas.Bool.Decides.{nat_tests}
 use Rattle.std.proofs.lemmas.Fmt.{decimal_injective}
 use Rattle.tool_cmd.specs.declared.lives.settings.LifeSettings.{LifeSettings}
-use Rattle.tool_cmd.specs.declared.frame_modulus.FrameModulus.{FrameModulus}
-use Rattle.tool_cmd.specs.declared.frame_modulus.FrameModulus.TheVariants.{M8, M128}
+use Rattle.radio_base.specs.declared.modulus.LinkModulus.{LinkModulus}
+use Rattle.radio_base.specs.declared.modulus.LinkModulus.TheVariants.{Modulo8, Modulo128}
 use Rattle.tool_cmd.specs.Frames.{modulo_word}
 use Rattle.tool_cmd.specs.LifeWords.{Among, AreSettings, delay_word, srej_word}
 
@@ -19,9 +19,9 @@ first_char (b ∷ bs) = b
 apart : (v w : List ℕ) (m n : ℕ) → first_char v ≡ m → first_char w ≡ n → nat_eq m n ≡ false → v ≡ w → ⊥
 apart v w m n vm wn two e = let same : first_char v ≡ first_char w = ap first_char e in grind (arith, nat_tests, two, same, vm, wn)
 
-modulo_m : (m : FrameModulus) → first_char (modulo_word m) ≡ 109
-modulo_m M8 = refl
-modulo_m M128 = refl
+modulo_m : (m : LinkModulus) → first_char (modulo_word m) ≡ 109
+modulo_m Modulo8 = refl
+modulo_m Modulo128 = refl
 
 srej_s : (b : Bool) → first_char (srej_word b) ≡ 115
 srej_s false = refl
@@ -35,11 +35,11 @@ one_place : (x y z p q r p' : List ℕ) → Among p (x ∷ y ∷ z ∷ []) → A
     → (p ≡ q → ⊥) → (p ≡ r → ⊥) → (q ≡ r → ⊥) → (p' ≡ q → ⊥) → (p' ≡ r → ⊥) → p ≡ p'
 one_place x y z p q r p' a b c d pq pr qr p'q p'r = grind (arith, a, b, c, d, pq, pr, qr, p'q, p'r)
 
-same_modulo : (m n : FrameModulus) → modulo_word m ≡ modulo_word n → m ≡ n
-same_modulo M8 M8 e = refl
-same_modulo M8 M128 e = absurd (cc e)
-same_modulo M128 M8 e = absurd (cc e)
-same_modulo M128 M128 e = refl
+same_modulo : (m n : LinkModulus) → modulo_word m ≡ modulo_word n → m ≡ n
+same_modulo Modulo8 Modulo8 e = refl
+same_modulo Modulo8 Modulo128 e = absurd (cc e)
+same_modulo Modulo128 Modulo8 e = absurd (cc e)
+same_modulo Modulo128 Modulo128 e = refl
 
 same_srej : (b c : Bool) → srej_word b ≡ srej_word c → b ≡ c
 same_srej false false e = refl
@@ -50,10 +50,10 @@ same_srej true true e = refl
 same_delay : (d e : ℕ) → d ≤ 1499 → e ≤ 1499 → delay_word d ≡ delay_word e → d ≡ e
 same_delay d e few less is = let same : decimal d ≡ decimal e = cc is in decimal_injective d e (omega (arith, few)) (omega (arith, less)) same
 
-same_settings : (s t : LifeSettings) → s.modulo ≡ t.modulo → s.srej ≡ t.srej → s.delay ≡ t.delay → s ≡ t
+same_settings : (s t : LifeSettings) → s.modulus ≡ t.modulus → s.srej ≡ t.srej → s.delay ≡ t.delay → s ≡ t
 same_settings s t m b d =
-    let first : s ≡ record s { modulo = t.modulo } = ap (λ m'. record s { modulo = m' }) m in
-    let second : record s { modulo = t.modulo } ≡ record t { delay = s.delay } = ap (λ b'. record t { delay = s.delay; srej = b' }) b in
+    let first : s ≡ record s { modulus = t.modulus } = ap (λ m'. record s { modulus = m' }) m in
+    let second : record s { modulus = t.modulus } ≡ record t { delay = s.delay } = ap (λ b'. record t { delay = s.delay; srej = b' }) b in
     first ∙ (second ∙ ap (λ d'. record t { delay = d' }) d)
 
 pub one_settings : (words : List (List ℕ)) (s t : LifeSettings) → AreSettings words s → AreSettings words t → s ≡ t
@@ -63,13 +63,13 @@ one_settings (x ∷ []) s t a b = absurd (omega (arith, a.0))
 one_settings (x ∷ y ∷ []) s t a b = absurd (omega (arith, a.0))
 one_settings (x ∷ y ∷ z ∷ w ∷ ws) s t a b = absurd (omega (arith, a.0))
 one_settings (x ∷ y ∷ z ∷ []) s t a b =
-    let ms : (m : FrameModulus) (b : Bool) → modulo_word m ≡ srej_word b → ⊥ = λ m b. apart _ _ 109 115 (modulo_m m) (srej_s b) refl in
-    let md : (m : FrameModulus) (d : ℕ) → modulo_word m ≡ delay_word d → ⊥ = λ m d. apart _ _ 109 100 (modulo_m m) (delay_d d) refl in
+    let ms : (m : LinkModulus) (b : Bool) → modulo_word m ≡ srej_word b → ⊥ = λ m b. apart _ _ 109 115 (modulo_m m) (srej_s b) refl in
+    let md : (m : LinkModulus) (d : ℕ) → modulo_word m ≡ delay_word d → ⊥ = λ m d. apart _ _ 109 100 (modulo_m m) (delay_d d) refl in
     let sd : (b : Bool) (d : ℕ) → srej_word b ≡ delay_word d → ⊥ = λ b d. apart _ _ 115 100 (srej_s b) (delay_d d) refl in
-    let modulo = one_place x y z (modulo_word s.modulo) (srej_word s.srej) (delay_word s.delay) (modulo_word t.modulo) a.1 a.2 a.3 b.1
-    (ms s.modulo s.srej) (md s.modulo s.delay) (sd s.srej s.delay) (ms t.modulo s.srej) (md t.modulo s.delay) in
-    let srej = one_place x y z (srej_word s.srej) (modulo_word s.modulo) (delay_word s.delay) (srej_word t.srej) a.2 a.1 a.3 b.2
-    (λ e. ms s.modulo s.srej (sym e)) (sd s.srej s.delay) (md s.modulo s.delay) (λ e. ms s.modulo t.srej (sym e)) (sd t.srej s.delay) in
-    let delay = one_place x y z (delay_word s.delay) (modulo_word s.modulo) (srej_word s.srej) (delay_word t.delay) a.3 a.1 a.2 b.3
-    (λ e. md s.modulo s.delay (sym e)) (λ e. sd s.srej s.delay (sym e)) (ms s.modulo s.srej) (λ e. md s.modulo t.delay (sym e)) (λ e. sd s.srej t.delay (sym e)) in
-    same_settings s t (same_modulo s.modulo t.modulo modulo) (same_srej s.srej t.srej srej) (same_delay s.delay t.delay a.4 b.4 delay)
+    let modulo = one_place x y z (modulo_word s.modulus) (srej_word s.srej) (delay_word s.delay) (modulo_word t.modulus) a.1 a.2 a.3 b.1
+    (ms s.modulus s.srej) (md s.modulus s.delay) (sd s.srej s.delay) (ms t.modulus s.srej) (md t.modulus s.delay) in
+    let srej = one_place x y z (srej_word s.srej) (modulo_word s.modulus) (delay_word s.delay) (srej_word t.srej) a.2 a.1 a.3 b.2
+    (λ e. ms s.modulus s.srej (sym e)) (sd s.srej s.delay) (md s.modulus s.delay) (λ e. ms s.modulus t.srej (sym e)) (sd t.srej s.delay) in
+    let delay = one_place x y z (delay_word s.delay) (modulo_word s.modulus) (srej_word s.srej) (delay_word t.delay) a.3 a.1 a.2 b.3
+    (λ e. md s.modulus s.delay (sym e)) (λ e. sd s.srej s.delay (sym e)) (ms s.modulus s.srej) (λ e. md s.modulus t.delay (sym e)) (λ e. sd s.srej t.delay (sym e)) in
+    same_settings s t (same_modulo s.modulus t.modulus modulo) (same_srej s.srej t.srej srej) (same_delay s.delay t.delay a.4 b.4 delay)

@@ -2,8 +2,8 @@
 use Rattle.std.specs.Prelude.{ℕ, ◌≡◌, ◌++◌, List, [], ◌∷◌, Bool, true, false, ◌&&◌, ◌==◌, Option, Some, None, Result, Ok, Err, if◌then◌else◌}
 use Rattle.std.proofs.Common.{lit≤}
 use Rattle.kiss_framing.specs.declared.item.KissItem.{KissItem}
-use Rattle.kiss_framing.specs.declared.item.KissItem.TheVariants as kiss
 use Rattle.kiss_framing.specs.Stream.{Item, Frame as Piece, Too_long, items, framed}
+pub use Rattle.kiss_framing.specs.Feeding.{item_of}
 use Rattle.ax_address.specs.Callsign.{Callsign}
 use Rattle.ax_address.specs.declared.address.Address.{Address}
 use Rattle.ax_frame.specs.declared.control.Control.TheVariants.{Ui}
@@ -54,10 +54,6 @@ by_read s (Ok f) = by_turn s (turn s f)
 
 abbrev pub by_octets : State → List ℕ → State × List ℕ
 by_octets s octets = by_read s (read_at 8 octets)
-
-abbrev pub item_of : KissItem → Item
-item_of (kiss.Frame port command payload) = Piece port command payload.now
-item_of kiss.TooLong = Too_long
 
 -- frames of data on port 0; other items give nothing
 abbrev pub by_item : State → Item → State × List ℕ

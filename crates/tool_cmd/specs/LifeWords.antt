@@ -20,5 +20,5 @@ Among word (w ∷ ws) = (w ≡ word) ⊎ Among word ws
 -- three words, and among them one for each setting
 unfoldable pub AreSettings : List (List ℕ) → LifeSettings → Type 0
 AreSettings words s =
-    (length words ≡ 3) × Among (modulo_word s.modulo) words × Among (srej_word s.srej) words
+    (length words ≡ 3) × Among (modulo_word s.modulus) words × Among (srej_word s.srej) words
     × Among (delay_word s.delay) words × (s.delay ≤ 1499)

@@ -5,13 +5,13 @@ use Rattle.link_life.specs.Lives.{new_life}
 use Rattle.link_life.specs.Reports.{life_text}
 use Rattle.link_life.specs.Lines.{script_of}
 use Rattle.tool_cmd.specs.declared.lives.settings.LifeSettings.{LifeSettings}
-use Rattle.tool_cmd.specs.Frames.{size_of}
+use Rattle.radio_base.specs.Modulus.{modulus_size}
 use Rattle.cmd_streams.specs.Told.{StreamsTold}
 use Rattle.cmd_streams.specs.Reading.{ReadsFile, TellsFile}
 
 -- the report of the life of a script, by these settings
 abbrev pub report_of : LifeSettings → List NumberedAct → List ℕ
-report_of s acts = life_text (new_life (size_of s.modulo) s.srej s.delay) acts
+report_of s acts = life_text (new_life (modulus_size s.modulus) s.srej s.delay) acts
 
 -- a file is a script of which P holds
 abbrev pub IsScript : List ℕ → (List NumberedAct → Type 0) → Type 0

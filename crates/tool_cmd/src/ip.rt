@@ -1,4 +1,4 @@
-//! The command `ip`.
+//! The command `ip`. Called by `node_cmd`.
 ghost use Rattle.std.specs.Prelude.{◌≡◌};
 ghost use Rattle.cmd_streams.specs.Told.{SaysTo, told_by};
 ghost use Rattle.cmd_streams.specs.StatusNotes.{HasNote, IsSilent};

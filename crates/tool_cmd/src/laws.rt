@@ -1,4 +1,4 @@
-//! What holds of the words of commands.
+//! What holds of the words of commands. Called by `top` of `node_cmd`.
 ghost use Rattle.tool_cmd.specs.Laws.{AreOfOneGateway, AreOfOneLife};
 
 /// Words ask for one gateway at most, and give the settings of one life at most.

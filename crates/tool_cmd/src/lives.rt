@@ -1,4 +1,4 @@
-//! The command `life`.
+//! The command `life`. Called by `node_cmd`.
 ghost use Rattle.std.specs.Prelude.{◌≡◌, ◌≢◌, ◌≤◌, length, Ok, Err, IfOk, IfErr};
 ghost use Rattle.link_life.specs.Lines.{ReadAs, script_of};
 ghost use Rattle.tool_cmd.specs.Lives.{IsScript, report_of};
@@ -9,10 +9,9 @@ ghost use Rattle.cmd_streams.specs.Told.{SaysTo, told_by};
 
 pub mod settings;
 
-use crate::frame_modulus::FrameModulus;
 use cmd_streams::{Status, read_file, refuse_input, refuse_line, write_all};
 use link_life::{LifeFileRefusal, LifeScript, read_life, run_life};
-use radio_base::{M8, M128, NoMemory, Sink, Source, TextOut};
+use radio_base::{LinkModulus, M8, M128, NoMemory, Sink, Source, TextOut};
 use settings::LifeSettings;
 use std::alloc::Global;
 
@@ -78,14 +77,14 @@ fn report_of(
     ensures { IfOk result (λ text. text ≡ report_of settings script.now) }
 {
     let LifeSettings {
-        modulo,
+        modulus,
         srej,
         delay,
     } = settings;
     let mut text = TextOut::new(alloc);
-    match modulo {
-        FrameModulus::M8 => run_life::<M8>(alloc, script, srej, delay, &mut text)?,
-        FrameModulus::M128 => run_life::<M128>(alloc, script, srej, delay, &mut text)?,
+    match modulus {
+        LinkModulus::Modulo8 => run_life::<M8>(alloc, script, srej, delay, &mut text)?,
+        LinkModulus::Modulo128 => run_life::<M128>(alloc, script, srej, delay, &mut text)?,
     }
     Ok(text)
 }

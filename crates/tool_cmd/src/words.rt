@@ -1,4 +1,4 @@
-//! A number behind a key, which words of several commands have.
+//! A number behind a key, which words of several commands have. Called by `settings`, and by `node_cmd`.
 ghost use Rattle.std.specs.Prelude.{◌≡◌, ◌≢◌, ◌<◌, ◌^◌, ◌++◌, ℕ, IfSome, IfNone, IsTrue, ◌↔◌};
 ghost use Rattle.std.specs.Fmt.{decimal};
 

@@ -6,15 +6,15 @@ use Rattle.circuit_table.specs.CircuitSets.{facts_at}
 use Rattle.circuit_table.specs.Sets.{Holder, end_of}
 use Rattle.circuit_verdict.specs.declared.late.Late.{Late}
 use Rattle.network_file.specs.Plan.{Plan}
-use Rattle.net_replay.specs.declared.air.Aired.{Aired}
-use Rattle.net_replay.specs.declared.causes.LateCause.{LateCause}
-use Rattle.net_replay.specs.declared.ends.EndRecord.{EndRecord}
-use Rattle.net_replay.specs.declared.events.NumberedEvent as code
-use Rattle.net_replay.specs.Ends.{ends_of}
-use Rattle.net_replay.specs.Events.{event_of, numbered_of}
-use Rattle.net_replay.specs.Reporting.{ends_left}
-use Rattle.net_replay.specs.Traces.{IsTraceOf, Left}
-use Rattle.net_replay.specs.World.{World}
+use Rattle.net_model.specs.declared.air.Aired.{Aired}
+use Rattle.net_verdict.specs.declared.causes.LateCause.{LateCause}
+use Rattle.net_model.specs.declared.ends.EndRecord.{EndRecord}
+use Rattle.net_model.specs.declared.events.NumberedEvent as code
+use Rattle.net_model.specs.Ends.{ends_of}
+use Rattle.net_model.specs.Events.{event_of, numbered_of}
+use Rattle.net_report.specs.Reporting.{ends_left}
+use Rattle.net_model.specs.Standing.{IsTraceOf, Left}
+use Rattle.net_model.specs.World.{World}
 use Rattle.trace_lines.specs.Events.{event_text, events_from, repeats}
 use Rattle.trace_lines.specs.Heads.{file_text, network_text}
 use Rattle.trace_lines.specs.Left.{end_text, ends_text, nodes_text}

@@ -11,8 +11,8 @@ use Rattle.circuit_table.specs.Pumps as pumps
 use Rattle.circuit_table.specs.Pumps.{SetTold, Of, Dropped}
 use Rattle.circuit_table.specs.Sets as sets
 use Rattle.l3_datagram.specs.declared.routed.Routed.{Routed}
-use Rattle.node_turns.specs.States as nodes
-use Rattle.net_replay.specs.ToldLines.{drop_word, link_word, notice_word}
+use Rattle.node_model.specs.States as nodes
+use Rattle.net_report.specs.ToldLines.{drop_word, link_word, notice_word}
 use Rattle.trace_lines.specs.declared.stands.AtNode.{AtNode}
 use Rattle.trace_lines.specs.Json.{Number, NumberOrNull, Octets, OctetsOrNull, Word, WordOrNull}
 use Rattle.trace_lines.specs.Left.{facts_fields}

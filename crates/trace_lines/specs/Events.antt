@@ -6,12 +6,12 @@ use Rattle.circuit_l4.specs.declared.pair.Pair.{Pair}
 use Rattle.network_file.specs.declared.plan.instructions.NumberedInstruction.{NumberedInstruction}
 use Rattle.network_file.specs.declared.plan.instructions.Instruction.{Instruction}
 use Rattle.network_file.specs.declared.plan.instructions.Instruction.TheVariants.{Again}
-use Rattle.net_replay.specs.declared.air.Aired.{Aired}
-use Rattle.net_replay.specs.World.{frame_of}
-use Rattle.net_replay.specs.Events as told
-use Rattle.net_replay.specs.Events.{Event, NumberedEvent}
-use Rattle.net_replay.specs.Refused.{word_for_why}
-use Rattle.net_replay.specs.Tables.{Table}
+use Rattle.net_model.specs.declared.air.Aired.{Aired}
+use Rattle.net_model.specs.World.{frame_of}
+use Rattle.net_model.specs.Events as told
+use Rattle.net_model.specs.Events.{Event, NumberedEvent}
+use Rattle.net_model.specs.Refused.{word_for_why}
+use Rattle.net_model.specs.Tables.{Table}
 use Rattle.route_table.specs.declared.route.Route.{Route}
 use Rattle.trace_lines.specs.declared.stands.AtNode.{AtNode}
 use Rattle.trace_lines.specs.declared.stands.Stand.{Stand}

@@ -7,14 +7,14 @@ use Rattle.circuit_l4.specs.declared.facts.EndFacts.{EndFacts}
 use Rattle.circuit_table.specs.CircuitSets.{facts_at}
 use Rattle.circuit_table.specs.Sets.{Holder, end_of}
 use Rattle.route_table.specs.declared.route.Route.{Route}
-use Rattle.net_replay.specs.declared.ends.EndRecord.{EndRecord}
-use Rattle.net_replay.specs.declared.outcome.Outcome.{Outcome}
-use Rattle.net_replay.specs.declared.outcome.Outcome.TheVariants.{Held, Gone, Lost}
-use Rattle.net_replay.specs.Lines.{table_of}
-use Rattle.net_replay.specs.Reports.{by_place}
-use Rattle.net_replay.specs.Starting.{Placed}
-use Rattle.net_replay.specs.Tables.{Table}
-use Rattle.net_replay.specs.ToldLines.{phase_word}
+use Rattle.net_model.specs.declared.ends.EndRecord.{EndRecord}
+use Rattle.net_model.specs.declared.outcome.Outcome.{Outcome}
+use Rattle.net_model.specs.declared.outcome.Outcome.TheVariants.{Held, Gone, Lost}
+use Rattle.net_model.specs.Lines.{table_of}
+use Rattle.net_report.specs.Reports.{by_place}
+use Rattle.net_model.specs.Starting.{Placed}
+use Rattle.net_model.specs.Tables.{Table}
+use Rattle.net_report.specs.ToldLines.{phase_word}
 use Rattle.node_mail.specs.Lists.{Lists}
 use Rattle.trace_lines.specs.Json.{object, Field, Number, NumberOrNull, Bytes, Word}
 use Rattle.trace_lines.specs.Mails.{mail_text}

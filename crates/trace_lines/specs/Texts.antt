@@ -2,9 +2,9 @@
 use Rattle.std.specs.Prelude.{ℕ, List, ◌++◌, Option}
 use Rattle.circuit_verdict.specs.declared.late.Late.{Late}
 use Rattle.network_file.specs.Plan.{Plan}
-use Rattle.net_replay.specs.declared.causes.LateCause.{LateCause}
-use Rattle.net_replay.specs.Ends.{ends_of}
-use Rattle.net_replay.specs.World.{World}
+use Rattle.net_verdict.specs.declared.causes.LateCause.{LateCause}
+use Rattle.net_model.specs.Ends.{ends_of}
+use Rattle.net_model.specs.World.{World}
 use Rattle.trace_lines.specs.Events.{events_from, repeats}
 use Rattle.trace_lines.specs.Heads.{file_text, network_text}
 use Rattle.trace_lines.specs.Left.{nodes_text}

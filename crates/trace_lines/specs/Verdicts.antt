@@ -1,10 +1,10 @@
 -- The verdict, and its cause, one JSON object a line. Own profile.
 use Rattle.std.specs.Prelude.{ℕ, List, [], ◌∷◌, codes, Option, Some, None, true, false}
 use Rattle.circuit_verdict.specs.declared.late.Late.{Late}
-use Rattle.net_replay.specs.declared.causes.LateCause.{LateCause}
-use Rattle.net_replay.specs.declared.sign.Sign.{Sign}
-use Rattle.net_replay.specs.declared.sign.Sign.TheVariants.{Unsent, Overtaken, Unasked, Held}
-use Rattle.net_replay.specs.Reports.{late_word}
+use Rattle.net_verdict.specs.declared.causes.LateCause.{LateCause}
+use Rattle.net_verdict.specs.declared.sign.Sign.{Sign}
+use Rattle.net_verdict.specs.declared.sign.Sign.TheVariants.{Unsent, Overtaken, Unasked, Held}
+use Rattle.net_report.specs.Reports.{late_word}
 use Rattle.trace_lines.specs.Json.{object, Field, Number, Truth, Word}
 
 abbrev pub verdict_line : Option Late → List ℕ

@@ -1,12 +1,13 @@
 //! The verdict, and its cause. Called by `traces`.
 ghost use Rattle.std.specs.Prelude.{◌≡◌, ◌++◌, OnOk, IfOk, Some, string_bytes};
-ghost use Rattle.net_replay.specs.declared.sign.Sign.TheVariants as signs;
-ghost use Rattle.net_replay.specs.Reports.{late_word};
+ghost use Rattle.net_verdict.specs.declared.sign.Sign.TheVariants as signs;
+ghost use Rattle.net_report.specs.Reports.{late_word};
 ghost use Rattle.trace_lines.specs.Json.{fields_text};
 ghost use Rattle.trace_lines.specs.Verdicts as verdicts;
 
 use crate::lines::Lines;
-use net_replay::{Late, LateCause, LateWhy, Sign};
+use circuit_verdict::{Late, LateWhy};
+use net_verdict::{LateCause, Sign};
 use radio_base::NoMemory;
 use std::alloc::{AllocError, Global};
 

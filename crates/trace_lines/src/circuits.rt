@@ -5,7 +5,7 @@ ghost use Rattle.std.specs.Option.{option_map};
 ghost use Rattle.ax_address.specs.Callsign as calls;
 ghost use Rattle.circuit_table.specs.Standing.{event_told};
 ghost use Rattle.node_core.specs.Standing.{entry_of};
-ghost use Rattle.net_replay.specs.ToldLines.{drop_word, notice_word};
+ghost use Rattle.net_report.specs.ToldLines.{drop_word, notice_word};
 ghost use Rattle.trace_lines.specs.Circuits as circuits;
 ghost use Rattle.trace_lines.specs.Json.{Number, NumberOrNull, Octets, OctetsOrNull, Word, fields_text, hex_text, or_null, quoted};
 
@@ -18,7 +18,7 @@ use ax_link::LinkNotice;
 use circuit_l4::{EndFacts, EndNotice, Pair};
 use circuit_table::SetEvent;
 use l3_datagram::{Datagram, Routed};
-use net_replay::{drop_word, link_word, notice_word};
+use net_report::{drop_word, link_word, notice_word};
 use node_core::NodeEntry;
 use radio_base::NoMemory;
 use std::alloc::{AllocError, Global};

@@ -1,8 +1,8 @@
 //! The events of a trace. Called by `traces`.
 ghost use Rattle.std.specs.Prelude.{◌≡◌, ◌++◌, [], ◌∷◌, length, OnOk, IfOk, string_bytes, map, flat_map};
-ghost use Rattle.net_replay.specs.World.{frame_of};
-ghost use Rattle.net_replay.specs.Events.{event_of, numbered_of};
-ghost use Rattle.net_replay.specs.Refused.{word_for_why};
+ghost use Rattle.net_model.specs.World.{frame_of};
+ghost use Rattle.net_model.specs.Events.{event_of, numbered_of};
+ghost use Rattle.net_model.specs.Refused.{word_for_why};
 ghost use Rattle.trace_lines.specs.Events as events;
 ghost use Rattle.trace_lines.specs.Json as json;
 ghost use Rattle.trace_lines.specs.Json.{Bytes, Number, Octets, fields_text};
@@ -16,7 +16,7 @@ use crate::mails::write_stored;
 use crate::marks::mark_of;
 use crate::stands::{AtNode, Stand};
 use circuit_l4::Pair;
-use net_replay::{Aired, Event, LostEnd, NumberedEvent, Offer, Table};
+use net_model::{Aired, Event, LostEnd, NumberedEvent, Offer, Table};
 use radio_base::NoMemory;
 use route_table::Route;
 use std::alloc::{AllocError, Global};

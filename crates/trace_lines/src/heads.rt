@@ -140,7 +140,7 @@ fn write_setting(setting: &Setting, out: &mut Lines) -> Result<(), NoMemory>
 fn key_text(alloc: Global, key: Key) -> Result<String, AllocError>
     ensures { IfOk result (λ s. string_bytes s ≡ json.string_text (word_of key)) }
 {
-    string_text(alloc, key.word())
+    string_text(alloc, key.word().as_bytes())
 }
 
 fn write_paths(vias: &[Via], out: &mut Lines) -> Result<(), NoMemory>

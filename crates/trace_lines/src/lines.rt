@@ -1,4 +1,4 @@
-//! The text that a trace becomes.
+//! The text that a trace becomes. Called by most files here.
 ghost use Rattle.std.specs.Prelude.{◌≡◌, ◌++◌, [], OnOk};
 
 use radio_base::{NoMemory, TextOut};

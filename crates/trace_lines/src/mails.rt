@@ -1,13 +1,13 @@
 //! What a trace tells of mail. Called by `events` and `left`.
 ghost use Rattle.std.specs.Prelude.{◌≡◌, ◌++◌, OnOk, IfOk, Option, string_bytes};
 ghost use Rattle.trace_lines.specs.Json.{fields_text};
-ghost use Rattle.net_replay.specs.Traces.{MailStands};
+ghost use Rattle.net_model.specs.Standing.{MailStands};
 ghost use Rattle.node_mail.specs.Lists.{Lists};
 ghost use Rattle.trace_lines.specs.Mails as mails;
 
 use crate::lines::Lines;
 use crate::stands::{AtNode, Stand};
-use net_replay::StoredMail;
+use net_model::StoredMail;
 use node_mail::Store;
 use radio_base::NoMemory;
 use std::alloc::{AllocError, Global};

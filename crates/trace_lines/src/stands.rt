@@ -1,4 +1,4 @@
-//! Where events stand.
+//! Where events stand. Called by `circuits`, `events` and `mails`.
 ghost use Rattle.std.specs.Prelude.{◌≡◌};
 ghost use Rattle.trace_lines.specs.Stands.{at_node};
 

@@ -1,7 +1,8 @@
 //! The text of the trace of a network.
 ghost use Rattle.std.specs.Prelude.{◌≡◌, ◌++◌, OnOk, OnErr, IfOk};
-ghost use Rattle.net_replay.specs.Traces.{IsTraceOf, left_of};
-ghost use Rattle.net_replay.specs.World.{World};
+ghost use Rattle.net_model.specs.Standing.{IsTraceOf};
+ghost use Rattle.net_world.specs.Traces.{left_of};
+ghost use Rattle.net_model.specs.World.{World};
 ghost use Rattle.trace_lines.specs.Texts as texts;
 
 use crate::causes::{write_cause, write_verdict};
@@ -10,7 +11,10 @@ use crate::heads::{write_lines, write_network};
 use crate::left::write_nodes;
 use crate::lines::Lines;
 use crate::marks::repeat_marks;
-use net_replay::{Late, LateCause, Network, Trace};
+use circuit_verdict::Late;
+use net_verdict::LateCause;
+use net_world::Trace;
+use network_file::Network;
 use radio_base::{NoMemory, TextOut};
 use std::alloc::Global;
 

@@ -1,5 +1,5 @@
-//! Calls compared and hashed. Their eight octets are compared as one number, which takes one comparison; to go through the six
-//! characters, as what is derived does, takes longer.
+//! Calls compared and hashed. Their eight octets are compared as one number, which takes one comparison; to go through the six characters,
+//! as what is derived does, takes longer. Called wherever calls are compared, and where they are keys of maps.
 ghost use Rattle.std.specs.Prelude.{◌≡◌, ◌∷◌, [], Some, nat_eq, refl};
 ghost use Rattle.std.specs.Cmp.{and_equiv, and_per, both_tied, on_equiv, on_per, on_total, partial_equiv_from_equiv, nat_eq_equiv, nat_cmp_total, then_total, unsigned_Decides, unsigned_ties, partial_order_from_agreeing_total};
 ghost use Rattle.std.specs.Cmp.Lexicographic.{bytes_decides, nat_list_cmp_total, nat_list_eq_equiv, texts_ties};

@@ -1,4 +1,4 @@
-//! Lines that speak of circuits and their ends: `open`, `say`, `burst`, `take`, `close`.
+//! Lines that speak of circuits and their ends: `open`, `say`, `burst`, `take`, `close`. Called by `nodes`.
 ghost use Rattle.std.specs.Prelude.{◌≡◌, IfOk};
 ghost use Rattle.network_file.specs.declared.plan.instructions.Instruction.TheVariants as instructions;
 ghost use Rattle.network_file.specs.Lines.{from_circuits};

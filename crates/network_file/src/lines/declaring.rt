@@ -1,4 +1,4 @@
-//! Lines that declare: `version`, `node`, `set`, `channel`, `via`.
+//! Lines that declare: `version`, `node`, `set`, `channel`, `via`. Called by `lines` and `live`.
 ghost use Rattle.std.specs.Prelude.{◌≡◌, ◌≤◌, ◌+◌, ◌++◌, List, [], length, Ok, Err, IfOk, IsTrue, MatchResult};
 ghost use Rattle.ax_address.specs.Callsign.{Callsign};
 ghost use Rattle.text_lines.specs.Lines.{texts};

@@ -1,4 +1,4 @@
-//! Lines that move frames: `deliver`, `again`, `lose`, `flow`, `cut`.
+//! Lines that move frames: `deliver`, `again`, `lose`, `flow`, `cut`. Called by `mails`.
 ghost use Rattle.std.specs.Prelude.{◌≡◌, []};
 ghost use Rattle.network_file.specs.declared.plan.instructions.Instruction.TheVariants as instructions;
 ghost use Rattle.network_file.specs.Lines.Instructions as lines;

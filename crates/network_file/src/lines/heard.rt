@@ -1,4 +1,4 @@
-//! The line `heard`.
+//! The line `heard`. Called by `nodes`.
 ghost use Rattle.std.specs.Prelude.{◌≡◌, ◌≤◌, ◌+◌, ◌*◌, ◌++◌, List, length, Ok, Err, IfOk, IsTrue, MatchResult};
 ghost use Rattle.ax_address.specs.declared.entry.Entry.{Entry};
 ghost use Rattle.text_lines.specs.Lines.{texts};

@@ -1,4 +1,4 @@
-//! Lines that speak of mail: `post`, `mail`.
+//! Lines that speak of mail: `post`, `mail`. Called by `circuits`.
 ghost use Rattle.std.specs.Prelude.{◌≡◌, IfOk};
 ghost use Rattle.network_file.specs.declared.plan.instructions.Instruction.TheVariants as instructions;
 ghost use Rattle.network_file.specs.Lines.{from_mails};

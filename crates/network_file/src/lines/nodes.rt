@@ -1,4 +1,5 @@
-//! Lines that speak of a node, or of time: `heard`, `lock`, `round`, `linkfail`, `show`, `tick`, `restart`.
+//! Lines that speak of a node, or of time: `heard`, `lock`, `round`, `linkfail`, `show`, `tick`, `restart`. Called by `circuits`,
+//! `declaring` and `mails`.
 ghost use Rattle.std.specs.Prelude.{◌≡◌, IfOk};
 ghost use Rattle.network_file.specs.declared.plan.instructions.Instruction.TheVariants as instructions;
 ghost use Rattle.network_file.specs.Lines.{from_nodes};

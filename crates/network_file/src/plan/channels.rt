@@ -1,4 +1,4 @@
-//! Who hears whom.
+//! Who hears whom. Called by `declaring`, `lines` and `network`, and by the replay and `trace_lines`.
 ghost use Rattle.std.specs.Prelude.{◌≡◌, ◌<◌, ◌==◌, ℕ, Bool, Some, ◌&&◌, ◌||◌, if◌then◌else◌, slice_get};
 ghost use Rattle.network_file.specs.Plan as hearing;
 

@@ -1,4 +1,4 @@
-//! The nodes that a file declares.
+//! The nodes that a file declares. Called by most files here, and by `node_settings`, the replay and `trace_lines`.
 ghost use Rattle.std.specs.Prelude.{◌≡◌};
 ghost use Rattle.network_file.specs.Places as places;
 

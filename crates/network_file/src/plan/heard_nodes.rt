@@ -1,4 +1,4 @@
-//! Broadcasts that lines hold.
+//! Broadcasts that lines hold. Called by `heard` and `instructions`.
 use nodes_broadcast::Nodes;
 use std::alloc::{AllocError, Global};
 use std::marker::Model;

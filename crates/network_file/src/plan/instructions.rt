@@ -1,4 +1,4 @@
-//! What happens in a network, one instruction a line.
+//! What happens in a network, one instruction a line. Used by most files here, and by the replay and `trace_lines`.
 use crate::plan::heard_nodes::HeardNodes;
 use crate::plan::pairs::FirstPair;
 use crate::plan::text::Text;

@@ -76,7 +76,7 @@ const KEYS: [Key; 20] = [
 /// The word of a key, its least and its largest value, and the one where no line sets it.
 #[derive(Clone, Copy)]
 struct KeyRow {
-    word: &'static [u8],
+    word: &'static str,
     least: u32,
     most: u32,
     default: u32,
@@ -111,7 +111,7 @@ impl Key {
     }
 
     /// The word by which files name the key.
-    pub fn word(self) -> &'static [u8]
+    pub fn word(self) -> &'static str
         ensures { result.now ≡ keys.word_of self }
     {
         self.row().word
@@ -140,7 +140,7 @@ impl Key {
 
     /// A file of that version may set the key to a value in its range: before version 3 a window is at most 64, and a modulus is
     /// 8 or 128.
-    pub(crate) fn takes(self, version: u8, value: u32) -> bool
+    pub fn takes(self, version: u8, value: u32) -> bool
         ensures { result ≡ keys.takes version self value }
     {
         match self {
@@ -157,31 +157,31 @@ impl Key {
         ensures default { result.default ≡ (keys.row_of self).default }
     {
         match self {
-            Key::Window => row(b"window", 1, 127, 4),
-            Key::Timeout => row(b"timeout", 1, 86_400_000, 60_000),
-            Key::Retries => row(b"retries", 1, 255, 3),
-            Key::Busy => row(b"busy", 1, 86_400_000, 180_000),
-            Key::Inactive => row(b"inactive", 1, 86_400_000, 900_000),
-            Key::TimeToLive => row(b"ttl", 1, 255, 25),
-            Key::Life => row(b"life", 1, 255, 6),
-            Key::Least => row(b"least", 1, 255, 5),
-            Key::MinimumQuality => row(b"minq", 1, 255, 1),
-            Key::PathQuality => row(b"quality", 0, 255, 192),
-            Key::Links => row(b"links", 0, 1, 1),
-            Key::Modulo => row(b"modulo", 8, 128, 8),
-            Key::LinkWindow => row(b"lwindow", 0, 127, 0),
-            Key::SelectiveReject => row(b"srej", 0, 1, 0),
-            Key::T1 => row(b"t1", 1, 86_400_000, 3_000),
-            Key::T3 => row(b"t3", 1, 86_400_000, 300_000),
-            Key::LinkRetries => row(b"lretries", 1, 255, 10),
-            Key::Prompt => row(b"prompt", 0, 1, 0),
-            Key::Interval => row(b"interval", 0, 86_400_000, 0),
-            Key::Mail => row(b"mail", 0, 1, 0),
+            Key::Window => row("window", 1, 127, 4),
+            Key::Timeout => row("timeout", 1, 86_400_000, 60_000),
+            Key::Retries => row("retries", 1, 255, 3),
+            Key::Busy => row("busy", 1, 86_400_000, 180_000),
+            Key::Inactive => row("inactive", 1, 86_400_000, 900_000),
+            Key::TimeToLive => row("ttl", 1, 255, 25),
+            Key::Life => row("life", 1, 255, 6),
+            Key::Least => row("least", 1, 255, 5),
+            Key::MinimumQuality => row("minq", 1, 255, 1),
+            Key::PathQuality => row("quality", 0, 255, 192),
+            Key::Links => row("links", 0, 1, 1),
+            Key::Modulo => row("modulo", 8, 128, 8),
+            Key::LinkWindow => row("lwindow", 0, 127, 0),
+            Key::SelectiveReject => row("srej", 0, 1, 0),
+            Key::T1 => row("t1", 1, 86_400_000, 3_000),
+            Key::T3 => row("t3", 1, 86_400_000, 300_000),
+            Key::LinkRetries => row("lretries", 1, 255, 10),
+            Key::Prompt => row("prompt", 0, 1, 0),
+            Key::Interval => row("interval", 0, 86_400_000, 0),
+            Key::Mail => row("mail", 0, 1, 0),
         }
     }
 }
 
-fn row(word: &'static [u8], least: u32, most: u32, default: u32) -> KeyRow
+fn row(word: &'static str, least: u32, most: u32, default: u32) -> KeyRow
     ensures word { result.word.now ≡ word.now }
     ensures least { result.least ≡ least }
     ensures most { result.most ≡ most }
@@ -202,7 +202,7 @@ fn first_of(list: &[Key], word: &[u8]) -> Option<Key>
     match list {
         [] => None,
         [key, others @ ..] => {
-            if key.word() == word {
+            if key.word().as_bytes() == word {
                 Some(*key)
             } else {
                 first_of(others, word)

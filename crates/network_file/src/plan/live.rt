@@ -1,4 +1,4 @@
-//! A node that runs alone, as the words of a command declare it.
+//! A node that runs alone, as the words of a command declare it. Called by `node_cmd`.
 ghost use Rattle.std.specs.Prelude.{◌≡◌, ◌==◌, ◌≤◌, ◌<◌, ◌++◌, ◌∷◌, length, position, map, string_bytes, Some, None, Ok, Err, IfSome, MatchOption, MatchResult};
 ghost use Rattle.network_file.specs.Live as live;
 ghost use Rattle.text_lines.specs.Lines.{texts};

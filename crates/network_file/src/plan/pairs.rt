@@ -1,4 +1,4 @@
-//! The pair that a node gives first after a restart.
+//! The pair that a node gives first after a restart. Called by `instructions`, `live` and `nodes`, and by the replay and `node_cmd`.
 use std::marker::Model;
 
 /// The index and the identifier of a pair, each from 1 to 255.

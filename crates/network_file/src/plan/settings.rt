@@ -30,6 +30,15 @@ impl Setting {
     ghost use Rattle.std.specs.Prelude.{◌≡◌, ◌≤◌};
     ghost use Rattle.network_file.specs.Keys.{least_of, most_of};
 
+    /// The key is set to the value for the node of that number.
+    pub fn new(node: u8, key: Key, value: u32) -> Setting
+        requires least { least_of key ≤ value }
+        requires most { value ≤ most_of key }
+        ensures { result ≡ record { node = node; key = key; value = value } }
+    {
+        Setting { node, key, value }
+    }
+
     /// The node's number, from 1 to 16.
     pub fn node(&self) -> u8
         ensures { result ≡ self.now.node }

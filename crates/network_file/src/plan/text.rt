@@ -1,4 +1,4 @@
-//! Texts that lines hold.
+//! Texts that lines hold. Called by `circuits`, `instructions` and `mails`, and by the replay.
 use std::alloc::{AllocError, Global};
 use std::marker::Model;
 

@@ -1,4 +1,4 @@
-//! The repeaters over which nodes reach others.
+//! The repeaters over which nodes reach others. Called by most files here, and by `node_settings`, the replay and `trace_lines`.
 ghost use Rattle.std.specs.Prelude.{◌≡◌};
 ghost use Rattle.network_file.specs.Plan as vias;
 

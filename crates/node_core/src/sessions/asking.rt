@@ -1,9 +1,9 @@
-//! The lines of a user at the prompt.
+//! The lines of a user at the prompt. Called by `serving`.
 ghost use Rattle.std.specs.Prelude.{◌≡◌, IfOk, OnOk, ◌≢◌};
 ghost use Rattle.circuit_table.specs.declared.refusal.ConnectRefusal.TheVariants as connecting;
-ghost use Rattle.node_turns.specs.Asking as asking;
-ghost use Rattle.node_turns.specs.States.{State};
-ghost use Rattle.node_turns.specs.Users as users;
+ghost use Rattle.node_model.specs.Asking as asking;
+ghost use Rattle.node_model.specs.States.{State};
+ghost use Rattle.node_model.specs.Users as users;
 
 use crate::station::Station;
 use ax_address::Call;

@@ -1,14 +1,14 @@
-//! What goes between a user and its circuit.
+//! What goes between a user and its circuit. Called by `serving`.
 ghost use Rattle.std.specs.Prelude.{◌≡◌, IfOk, OnOk};
-ghost use Rattle.node_turns.specs.Bridging as bridging;
-ghost use Rattle.node_turns.specs.States.{State};
-ghost use Rattle.node_turns.specs.Users as users;
+ghost use Rattle.node_model.specs.Bridging as bridging;
+ghost use Rattle.node_model.specs.States.{State};
+ghost use Rattle.node_model.specs.Users as users;
 
 use crate::sessions::users::{has_taken, is_gone};
 use crate::station::Station;
 use l3_datagram::Message;
+use node_model::{Circuit, Reply};
 use node_prompt::Prompt;
-use node_turns::{Circuit, Reply};
 use radio_base::{Moment, NoMemory};
 
 impl Station {

@@ -1,10 +1,10 @@
-//! What has happened, as the sessions hear it.
+//! What has happened, as the sessions hear it. Called by `serving` and `settling`.
 ghost use Rattle.std.specs.Prelude.{◌≡◌, OnOk, map};
 ghost use Rattle.circuit_table.specs.Standing.{event_told};
-ghost use Rattle.node_turns.specs.Serving as serving;
-ghost use Rattle.node_turns.specs.Sessions as sessions;
-ghost use Rattle.node_turns.specs.States as states;
-ghost use Rattle.node_turns.specs.States.{State};
+ghost use Rattle.node_model.specs.Serving as serving;
+ghost use Rattle.node_model.specs.Sessions as sessions;
+ghost use Rattle.node_model.specs.States as states;
+ghost use Rattle.node_model.specs.States.{State};
 
 use crate::sessions::Session;
 use crate::sessions::session::is_at_link;
@@ -13,7 +13,7 @@ use ax_address::Call;
 use ax_link::LinkNotice;
 use circuit_l4::EndNotice;
 use circuit_table::SetEvent;
-use node_turns::User;
+use node_model::User;
 use radio_base::NoMemory;
 
 impl Station {

@@ -1,7 +1,7 @@
-//! The lines of a text.
+//! The lines of a text. Called by `session`.
 ghost use Rattle.std.specs.Prelude.{◌≡◌, ◌≤◌, ◌<◌, ◌==◌, IfSome, drop, length};
 ghost use Rattle.std.specs.List.{position};
-ghost use Rattle.node_turns.specs.Asking as asking;
+ghost use Rattle.node_model.specs.Asking as asking;
 
 /// The first line of a text: up to its first CR, or all of it.
 pub fn first_line(text: &[u8]) -> &[u8]

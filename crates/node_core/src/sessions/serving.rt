@@ -1,16 +1,16 @@
-//! The sessions are served in the order of their making, each with at most one thing.
+//! The sessions are served in the order of their making, each with at most one thing. Called by `settling`.
 ghost use Rattle.std.specs.Prelude.{◌≡◌, IfOk, OnOk};
-ghost use Rattle.node_turns.specs.Serving as serving;
+ghost use Rattle.node_model.specs.Serving as serving;
 ghost use Rattle.node_core.specs.Going.{SetHoldsTold};
-ghost use Rattle.node_turns.specs.States.{State};
-ghost use Rattle.node_turns.specs.Users as users;
+ghost use Rattle.node_model.specs.States.{State};
+ghost use Rattle.node_model.specs.Users as users;
 
 use crate::sessions::Session;
 use crate::sessions::users::is_gone;
 use crate::station::Station;
 use circuit_table::CircuitSet;
 use link_table::LinkTable;
-use node_turns::Stage;
+use node_model::Stage;
 use radio_base::{Moment, NoMemory};
 
 impl Station {

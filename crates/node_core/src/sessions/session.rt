@@ -1,17 +1,17 @@
-//! A session: a user at the prompt, and the circuit that it has asked for.
+//! A session: a user at the prompt, and the circuit that it has asked for. Called by most files here.
 ghost use Rattle.std.specs.Prelude.{◌≡◌, true, slice_get, OnOk, Some};
-ghost use Rattle.node_turns.specs.Bridging as bridging;
-ghost use Rattle.node_turns.specs.Asking as asking;
-ghost use Rattle.node_turns.specs.Serving as serving;
-ghost use Rattle.node_turns.specs.Sessions as sessions;
-ghost use Rattle.node_turns.specs.Users as users;
+ghost use Rattle.node_model.specs.Bridging as bridging;
+ghost use Rattle.node_model.specs.Asking as asking;
+ghost use Rattle.node_model.specs.Serving as serving;
+ghost use Rattle.node_model.specs.Sessions as sessions;
+ghost use Rattle.node_model.specs.Users as users;
 
 use crate::sessions::lines::{first_line, line_size};
 use ax_address::Call;
 use circuit_l4::EndNotice;
 use l3_datagram::Message;
+use node_model::{Circuit, Reply, Stage, User};
 use node_prompt::Trouble;
-use node_turns::{Circuit, Reply, Stage, User};
 use radio_base::NoMemory;
 use std::alloc::Global;
 use std::collections::VecDeque;
@@ -38,7 +38,7 @@ pub struct Session {
 
 impl Model for Session {
     ghost use Rattle.std.specs.Prelude.{◌≤◌, drop, length};
-    ghost use Rattle.node_turns.specs.Sessions.{Session, unused};
+    ghost use Rattle.node_model.specs.Sessions.{Session, unused};
 
     ghost Value = { Session };
 

@@ -1,12 +1,12 @@
-//! The user's side of a session: the end of a circuit that came here, or a link.
+//! The user's side of a session: the end of a circuit that came here, or a link. Called by `bridging` and `serving`.
 ghost use Rattle.std.specs.Prelude.{◌≡◌, IfOk, OnOk, slice_get};
 ghost use Rattle.std.specs.Fn.{FnOnceReturnsAtMut};
 ghost use Rattle.std.specs.Option.{option_copied};
 ghost use Rattle.circuit_table.specs.CircuitSets.{partner_at};
-ghost use Rattle.node_turns.specs.Users as users;
+ghost use Rattle.node_model.specs.Users as users;
 ghost use Rattle.link_table.specs.Standing.{TextNotNoMemory};
 ghost use Rattle.node_core.specs.Going.{SetHoldsTold};
-ghost use Rattle.node_turns.specs.States.{State};
+ghost use Rattle.node_model.specs.States.{State};
 
 use crate::sessions::Session;
 use crate::station::Station;
@@ -15,7 +15,7 @@ use circuit_l4::EndPhase;
 use circuit_table::{CircuitSet, NoEnd, SetRefusal};
 use l3_datagram::Message;
 use link_table::{LinkTable, TextRefusal};
-use node_turns::User;
+use node_model::User;
 use radio_base::{Moment, NoMemory};
 
 /// With how many bytes queued at most an end has room for a text.

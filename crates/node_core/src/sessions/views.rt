@@ -1,10 +1,10 @@
-//! What a user sees of this node.
+//! What a user sees of this node. Called by `asking`.
 ghost use Rattle.std.specs.Prelude.{◌≡◌, IfOk, filter, flat_map, take, slice_get};
 ghost use Rattle.std.specs.Option.{option_to_list};
 ghost use Rattle.circuit_table.specs.CircuitSets.{held_ids};
 ghost use Rattle.node_prompt.specs.declared.sight.Sight.TheVariants as sights;
-ghost use Rattle.node_turns.specs.States.{State};
-ghost use Rattle.node_turns.specs.Asking as views;
+ghost use Rattle.node_model.specs.States.{State};
+ghost use Rattle.node_model.specs.Asking as views;
 
 use crate::station::Station;
 use arrayvec::ArrayVec;
@@ -53,7 +53,7 @@ impl Station {
         }
     }
 
-    /// The destinations that have a route over themselves.
+    /// The neighbours: the destinations that have a direct route.
     fn neighbours(&self) -> Result<View, NoMemory>
         ensures { IfOk result (λ view. (n : State) → HoldsTold self.now n → view ≡ views.view sights.Routes n) }
     {

@@ -1,4 +1,4 @@
-//! A forwarder of packets at a KISS stream: what comes, and what is sent.
+//! A forwarder of packets at a KISS stream: what comes, and what is sent. Called by `ip` and `words`, and by `node_cmd`.
 ghost use Rattle.std.specs.Prelude.{◌≡◌, ◌≤◌, [], length, None, OnOk, OnErr};
 ghost use Rattle.ax_address.specs.Callsign.{IsCallsign};
 ghost use Rattle.ax_ip.specs.Machine.{state, waiting};

@@ -1,4 +1,4 @@
-//! Addresses and routes as texts.
+//! Addresses and routes as texts. Called by `words`.
 ghost use Rattle.std.specs.Prelude.{◌≡◌, ◌<◌, ◌≤◌, ◌+◌, ◌^◌, ◌==◌, length, position, IfSome, true};
 ghost use Rattle.tool_cmd.specs.IpTexts as texts;
 

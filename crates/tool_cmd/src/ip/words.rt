@@ -1,4 +1,4 @@
-//! The words of `ip`.
+//! The words of `ip`. Called by `node_cmd`.
 ghost use Rattle.std.specs.Prelude.{◌≡◌, IfSome, IfNone, true, false};
 ghost use Rattle.ax_ip.specs.Machine.{State};
 ghost use Rattle.tool_cmd.specs.IpTexts.{Gives};

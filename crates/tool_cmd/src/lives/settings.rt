@@ -1,16 +1,17 @@
-//! The words of `life`.
+//! The words of `life`. Called by `lives`, and by `node_cmd`.
 ghost use Rattle.std.specs.Prelude.{◌≡◌, ◌≢◌, ◌≤◌, ◌∷◌, [], ℕ, Bool, IfSome, IfNone};
 ghost use Rattle.tool_cmd.specs.declared.lives.settings.LifeSettings.{LifeSettings};
 ghost use Rattle.tool_cmd.specs.LifeWords as lives;
 ghost use Rattle.tool_cmd.specs.WordTexts.{texts_of};
 
-use crate::frame_modulus::{FrameModulus, modulo_of};
+use crate::modulo_word::modulo_of;
 use crate::words::number_behind;
+use radio_base::LinkModulus;
 
 /// How a life is led.
 #[derive(Clone, Copy, Debug, PartialEq, Eq)]
 pub struct LifeSettings {
-    pub modulo: FrameModulus,
+    pub modulus: LinkModulus,
     pub srej: bool,
     /// For how long a frame may be under way, in milliseconds.
     pub delay: u64,
@@ -36,11 +37,11 @@ fn settings_in(x: &str, y: &str, z: &str) -> Option<LifeSettings>
     ensures found { IfSome result (λ s. lives.AreSettings (x.now ∷ y.now ∷ z.now ∷ []) s) }
     ensures none { IfNone result ((s : LifeSettings) → ¬ lives.AreSettings (x.now ∷ y.now ∷ z.now ∷ []) s) }
 {
-    let modulo = modulo_of(x).or(modulo_of(y)).or(modulo_of(z))?;
+    let modulus = modulo_of(x).or(modulo_of(y)).or(modulo_of(z))?;
     let srej = srej_of(x).or(srej_of(y)).or(srej_of(z))?;
     let delay = delay_of(x).or(delay_of(y)).or(delay_of(z))?;
     Some(LifeSettings {
-        modulo,
+        modulus,
         srej,
         delay,
     })

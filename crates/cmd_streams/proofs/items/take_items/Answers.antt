@@ -1,6 +1,6 @@
 use Rattle.std.proofs.Common.{◌≡◌, ◌++◌, ◌∙◌, [], take, drop, ap, sym, append_assoc, append-nil, arith, length-drop, take-add}
-use Rattle.std.proofs.lemmas.List.{append_cancel_left}
-use Rattle.cmd_streams.proofs.StreamItems.{nothing_more, rest_of}
+use Rattle.std.proofs.lemmas.List.{append_cancel_left, take_rest}
+use Rattle.cmd_streams.proofs.StreamItems.{nothing_more}
 use Rattle.cmd_streams.proofs.items.take_items.Goals as goal
 
 pub loop-taken-init : goal.loop-taken-init
@@ -20,7 +20,7 @@ loop-taken-preserved g c =
     let front = take taken bytes in
     let next = take count (drop taken bytes) in
     let i = c.loop-taken.invariant in
-    let told = rw (rest_of taken bytes) at c.in_ok-taken.ensures in
+    let told = rw (take_rest bytes taken) at c.in_ok-taken.ensures in
     let grown = told.added.1 ∙ (ap (λ xs. xs ++ told.added.0) i.added.1 ∙ append_assoc c.args.answer.now i.added.0 told.added.0) in
     record {
       within = omega (arith, told.within, i.within, length-drop taken bytes);

@@ -1,9 +1,7 @@
-use Rattle.std.proofs.Common.{◌≡◌, ◌<◌, ◌+◌, ◌++◌, ap, arith, sym, length, length-append, length-drop, take, drop}
-use Rattle.std.specs.List.{flat_map}
-use Rattle.std.proofs.lemmas.List.{drop-drop}
+use Rattle.std.proofs.Common.{ap, arith, length, length-append, length-drop}
+use Rattle.std.proofs.lemmas.List.{drop-drop, take_rest}
 use Rattle.std.proofs.lemmas.Result.{err_from_is_err_and}
-use Rattle.kiss_framing.specs.Stream.{escape_of}
-use Rattle.kiss_framing.proofs.PlainRuns.{front_kept, rest_kept, rest_of}
+use Rattle.kiss_framing.proofs.PlainRuns.{front_kept, rest_kept}
 use Rattle.kiss_framing.proofs.enframing.push_payload.Goals as goal
 
 pub returns-in_err-taken-clause-full : goal.returns-in_err-taken-clause-full
@@ -11,7 +9,7 @@ returns-in_err-taken-clause-full g c =
     let p = err_from_is_err_and c.from_residual.result c.from_residual.ensures.1 in
     let bytes = c.args.payload.now in
     let i = c.loop-taken.invariant in
-    let full = rw (rest_of c.loop-taken.taken bytes) at c.in_err-taken.ensures.full in
+    let full = rw (take_rest bytes c.loop-taken.taken) at c.in_err-taken.ensures.full in
     let long = ap length i.rest in
     rw p.1 (omega (arith, full, simp length-append at long))
 
@@ -21,7 +19,7 @@ loop-taken-preserved g c =
     let taken = c.loop-taken.taken in
     let count = c.in_ok-taken.field-0 in
     let i = c.loop-taken.invariant in
-    let told = rw (rest_of taken bytes) at c.in_ok-taken.ensures in
+    let told = rw (take_rest bytes taken) at c.in_ok-taken.ensures in
     record {
       within = omega (arith, told.within, i.within, length-drop taken bytes);
       front = front_kept c.args.out.now.items c.loop-taken.out.items _ _ told.ok i.front;

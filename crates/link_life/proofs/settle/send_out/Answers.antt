@@ -1,6 +1,7 @@
 use Rattle.std.proofs.Common.{◌∙◌, ap, sym}
 use Rattle.ax_link.specs.Standing.{LinkView}
-use Rattle.link_life.proofs.Flying.{flight_out, line_out, outs_alone}
+use Rattle.ax_link.proofs.Standings.{outs_alone}
+use Rattle.link_life.proofs.Flying.{flight_out, line_out}
 use Rattle.link_life.proofs.settle.send_out.Goals as goal
 
 pub loop-out-preserved : goal.loop-out-preserved

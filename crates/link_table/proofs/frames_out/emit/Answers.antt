@@ -1,6 +1,7 @@
 use Rattle.std.proofs.Common.{◌≡◌, ◌++◌, ◌∙◌, None, ap, append-nil, slice_get, sym}
 use Rattle.ax_link.specs.Standing.{LinkView}
-use Rattle.link_table.proofs.Lifting.{none_left_out, none_out, one_out, outs_alone}
+use Rattle.ax_link.proofs.Standings.{outs_alone}
+use Rattle.link_table.proofs.Lifting.{none_left_out, none_out, one_out}
 use Rattle.link_table.proofs.frames_out.emit.Goals as goal
 
 pub loop-out-preserved : goal.loop-out-preserved

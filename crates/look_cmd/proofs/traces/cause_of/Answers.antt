@@ -1,5 +1,5 @@
 use Rattle.std.proofs.lemmas.Result.{IfOk-weaker}
-use Rattle.net_replay.specs.Lines.{world}
+use Rattle.net_model.specs.Lines.{world}
 use Rattle.look_cmd.proofs.traces.cause_of.Goals as goal
 
 pub returns-in-Some : goal.returns-in-Some

@@ -1,7 +1,7 @@
 use Rattle.std.proofs.Common.{rules, inl, inr, refl, subst, None, Some}
 use Rattle.std.specs.Io.KnownBytes.{Appends}
 use Rattle.look_cmd.specs.Traced.{IsTraced}
-use Rattle.net_replay.proofs.Verdicts.{few_many, in_time_not_late, late_not_in_time}
+use Rattle.net_verdict.proofs.Verdicts.{few_many, in_time_not_late, late_not_in_time}
 use Rattle.look_cmd.proofs.traces.print_trace.Goals as goal
 
 -- the file's first bad line is the one that the note names

@@ -1,6 +1,6 @@
 use Rattle.std.proofs.Common.{◌≤◌, length, subst}
-use Rattle.net_replay.specs.World.{most_frames}
-use Rattle.net_replay.specs.Lines.{world}
+use Rattle.net_model.specs.World.{most_frames}
+use Rattle.net_model.specs.Lines.{world}
 use Rattle.look_cmd.proofs.traces.traced_trace.Goals as goal
 
 pub returns : goal.returns

@@ -2,7 +2,7 @@ use Rattle.std.proofs.Common.{◌≡◌, ◌∙◌, ◌++◌, [], ℕ, List, sym
 use Rattle.std.specs.Prelude.{Some, slice_get}
 use Rattle.link_table.specs.declared.written.Written.{Written}
 use Rattle.node_core.specs.Standing.{NodeStands}
-use Rattle.node_turns.specs.States.{NodeState, State, fetch_frame, frames}
+use Rattle.node_model.specs.States.{NodeState, State, fetch_frame, frames}
 use Rattle.node_cmd.specs.Live.{kiss_of, kiss_of_frame}
 use Rattle.node_cmd.proofs.Fetched.{all_sent, first_bytes, no_frames, rest}
 use Rattle.node_cmd.proofs.live.add_frames.Goals as goal

@@ -1,7 +1,7 @@
 use Rattle.std.proofs.Common.{◌≡◌, ◌++◌, ℕ, List}
 use Rattle.node_core.specs.Fetching.{without_frames}
 use Rattle.node_core.specs.Standing.{NodeStands, frames_left}
-use Rattle.node_turns.specs.States.{NodeState, frames}
+use Rattle.node_model.specs.States.{NodeState, frames}
 use Rattle.node_cmd.specs.Live.{kiss_of}
 use Rattle.node_cmd.proofs.live.add_frames.Given as goal
 

@@ -1,6 +1,6 @@
 use Rattle.std.proofs.Common.{◌∙◌, ap, subst, sym}
 use Rattle.node_core.specs.Standing.{NodeStands}
-use Rattle.node_turns.specs.States.{NodeState, State}
+use Rattle.node_model.specs.States.{NodeState, State}
 use Rattle.node_cmd.proofs.Fetched.{all_heard}
 use Rattle.node_cmd.proofs.live.drop_entries.Goals as goal
 

@@ -1,7 +1,7 @@
 use Rattle.std.proofs.Common.{◌≡◌}
 use Rattle.node_core.specs.Fetching.{without_entries}
 use Rattle.node_core.specs.Standing.{NodeStands, entries_left}
-use Rattle.node_turns.specs.States.{NodeState}
+use Rattle.node_model.specs.States.{NodeState}
 use Rattle.node_cmd.proofs.live.drop_entries.Given as goal
 
 abbrev pub invariant-loop-entry : goal.invariant-loop-entry

@@ -1,7 +1,7 @@
 use Rattle.std.proofs.Common.{subst}
 use Rattle.std.proofs.lemmas.Result.{IfOk-weaker}
-use Rattle.net_replay.specs.Circuits.{IsVerdictOn}
-use Rattle.net_replay.specs.Lines.{world}
+use Rattle.net_model.specs.Circuits.{IsVerdictOn}
+use Rattle.net_model.specs.Lines.{world}
 use Rattle.node_cmd.proofs.outcomes.outcome_of.Goals as goal
 
 -- by the laws of every network

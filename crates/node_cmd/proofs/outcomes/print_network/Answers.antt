@@ -1,9 +1,9 @@
 use Rattle.std.proofs.Common.{rules, ◌≡◌, ◌∙◌, inl, inr, refl, ap, subst, None, Some}
 use Rattle.std.specs.Io.KnownBytes.{Appends}
-use Rattle.net_replay.specs.Circuits.{IsVerdictOn}
-use Rattle.net_replay.specs.Lines.{world}
+use Rattle.net_model.specs.Circuits.{IsVerdictOn}
+use Rattle.net_model.specs.Lines.{world}
 use Rattle.node_cmd.specs.Outcomes.{text_of}
-use Rattle.net_replay.proofs.Verdicts.{few_many, in_time_not_late, late_not_in_time}
+use Rattle.net_verdict.proofs.Verdicts.{few_many, in_time_not_late, late_not_in_time}
 use Rattle.node_cmd.proofs.outcomes.print_network.Goals as goal
 
 -- the file's first bad line is the one that the note names

@@ -1,6 +1,6 @@
 use Rattle.std.proofs.Common.{◌≡◌, inl, inr, refl}
 use Rattle.node_cmd.specs.declared.command.RunCommand.TheVariants.{Replay, Frames, Soak, Life, Node, Ip}
-use Rattle.tool_cmd.specs.Frames.{size_of}
+use Rattle.radio_base.specs.Modulus.{modulus_size}
 use Rattle.tool_cmd.specs.Standing.{state_of}
 use Rattle.node_cmd.proofs.Commands.{one_declared, one_gateway, one_life, one_modulus, one_seed, other, runs_one}
 use Rattle.node_cmd.proofs.NodeEnding.{never_usage}
@@ -12,7 +12,7 @@ use Rattle.node_cmd.proofs.top.run.Goals as goal
 pub returns-in-Some-Frames-clause-frames : goal.returns-in-Some-Frames-clause-frames
 returns-in-Some-Frames-clause-frames g c = λ m asked.
     let found = rw c.in-Some-Frames.field-0-is at c.in-Some-Frames.ensures.found in
-    let same : size_of c.in-Some-Frames.modulo ≡ size_of m = one_modulus c.args.words.now c.in-Some-Frames.modulo m found asked in
+    let same : modulus_size c.in-Some-Frames.modulus ≡ modulus_size m = one_modulus c.args.words.now c.in-Some-Frames.modulus m found asked in
     rw (← same) c.frames_of_stream.ensures.ends
 
 -- a word spells one number
@@ -67,25 +67,25 @@ pub returns-in-Some-Replay-clause-no_network : goal.returns-in-Some-Replay-claus
 returns-in-Some-Replay-clause-no_network g c = λ asked. absurd (runs_one c.args.words.now Replay refl refl refl (rw c.in-Some-Replay.field-0-is at c.in-Some-Replay.ensures.found) asked)
 
 pub returns-in-Some-Frames-clause-replay : goal.returns-in-Some-Frames-clause-replay
-returns-in-Some-Frames-clause-replay g c = λ asked. absurd (other c.args.words.now (Frames c.in-Some-Frames.modulo) Replay refl (rw c.in-Some-Frames.field-0-is at c.in-Some-Frames.ensures.found) asked)
+returns-in-Some-Frames-clause-replay g c = λ asked. absurd (other c.args.words.now (Frames c.in-Some-Frames.modulus) Replay refl (rw c.in-Some-Frames.field-0-is at c.in-Some-Frames.ensures.found) asked)
 
 pub returns-in-Some-Frames-clause-soak : goal.returns-in-Some-Frames-clause-soak
-returns-in-Some-Frames-clause-soak g c = λ seed asked. absurd (other c.args.words.now (Frames c.in-Some-Frames.modulo) (Soak seed) refl (rw c.in-Some-Frames.field-0-is at c.in-Some-Frames.ensures.found) asked)
+returns-in-Some-Frames-clause-soak g c = λ seed asked. absurd (other c.args.words.now (Frames c.in-Some-Frames.modulus) (Soak seed) refl (rw c.in-Some-Frames.field-0-is at c.in-Some-Frames.ensures.found) asked)
 
 pub returns-in-Some-Frames-clause-life : goal.returns-in-Some-Frames-clause-life
-returns-in-Some-Frames-clause-life g c = λ s asked. absurd (other c.args.words.now (Frames c.in-Some-Frames.modulo) (Life s) refl (rw c.in-Some-Frames.field-0-is at c.in-Some-Frames.ensures.found) asked)
+returns-in-Some-Frames-clause-life g c = λ s asked. absurd (other c.args.words.now (Frames c.in-Some-Frames.modulus) (Life s) refl (rw c.in-Some-Frames.field-0-is at c.in-Some-Frames.ensures.found) asked)
 
 pub returns-in-Some-Frames-clause-node : goal.returns-in-Some-Frames-clause-node
-returns-in-Some-Frames-clause-node g c = λ declared asked. absurd (other c.args.words.now (Frames c.in-Some-Frames.modulo) (Node declared) refl (rw c.in-Some-Frames.field-0-is at c.in-Some-Frames.ensures.found) asked)
+returns-in-Some-Frames-clause-node g c = λ declared asked. absurd (other c.args.words.now (Frames c.in-Some-Frames.modulus) (Node declared) refl (rw c.in-Some-Frames.field-0-is at c.in-Some-Frames.ensures.found) asked)
 
 pub returns-in-Some-Frames-clause-ip : goal.returns-in-Some-Frames-clause-ip
-returns-in-Some-Frames-clause-ip g c = λ gateway asked. absurd (other c.args.words.now (Frames c.in-Some-Frames.modulo) (Ip gateway) refl (rw c.in-Some-Frames.field-0-is at c.in-Some-Frames.ensures.found) asked)
+returns-in-Some-Frames-clause-ip g c = λ gateway asked. absurd (other c.args.words.now (Frames c.in-Some-Frames.modulus) (Ip gateway) refl (rw c.in-Some-Frames.field-0-is at c.in-Some-Frames.ensures.found) asked)
 
 pub returns-in-Some-Frames-clause-sourceless : goal.returns-in-Some-Frames-clause-sourceless
-returns-in-Some-Frames-clause-sourceless g c = λ seed asked. absurd (other c.args.words.now (Frames c.in-Some-Frames.modulo) (Soak seed) refl (rw c.in-Some-Frames.field-0-is at c.in-Some-Frames.ensures.found) asked)
+returns-in-Some-Frames-clause-sourceless g c = λ seed asked. absurd (other c.args.words.now (Frames c.in-Some-Frames.modulus) (Soak seed) refl (rw c.in-Some-Frames.field-0-is at c.in-Some-Frames.ensures.found) asked)
 
 pub returns-in-Some-Frames-clause-whole : goal.returns-in-Some-Frames-clause-whole
-returns-in-Some-Frames-clause-whole g c = λ answers. absurd (answers (inl (c.in-Some-Frames.modulo, rw c.in-Some-Frames.field-0-is at c.in-Some-Frames.ensures.found)))
+returns-in-Some-Frames-clause-whole g c = λ answers. absurd (answers (inl (c.in-Some-Frames.modulus, rw c.in-Some-Frames.field-0-is at c.in-Some-Frames.ensures.found)))
 
 pub returns-in-Some-Soak-clause-replay : goal.returns-in-Some-Soak-clause-replay
 returns-in-Some-Soak-clause-replay g c = λ asked. absurd (other c.args.words.now (Soak c.in-Some-Soak.seed) Replay refl (rw c.in-Some-Soak.field-0-is at c.in-Some-Soak.ensures.found) asked)

@@ -1,5 +1,6 @@
 use Rattle.std.proofs.Common.{◌++◌, append_assoc, arith, drop, length-drop, take, take-add}
-use Rattle.node_core.proofs.Nodes.{bytes_left, takes_both}
+use Rattle.std.proofs.lemmas.List.{take_rest}
+use Rattle.node_core.proofs.Nodes.{takes_both}
 use Rattle.node_core.proofs.feeding.take_bytes.Goals as goal
 
 pub loop-taken-preserved : goal.loop-taken-preserved
@@ -10,7 +11,7 @@ loop-taken-preserved c =
     let front = take taken bytes in
     let next = take count (drop taken bytes) in
     let i = c.loop-taken.invariant in
-    let more = rw (bytes_left taken bytes) at c.in_ok-taken.ensures in
+    let more = rw (take_rest bytes taken) at c.in_ok-taken.ensures in
     record {
       within = omega (arith, more.within, i.within, length-drop taken bytes);
       some = more.some;

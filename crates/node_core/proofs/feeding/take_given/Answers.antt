@@ -2,7 +2,7 @@ use Rattle.std.proofs.Common.{◌∙◌, ap}
 use Rattle.std.specs.Prelude.{Option}
 use Rattle.kiss_framing.specs.Feeding.{handed_out}
 use Rattle.kiss_framing.specs.declared.item.KissItem.{KissItem}
-use Rattle.node_core.proofs.Nodes.{handed_is}
+use Rattle.kiss_framing.proofs.Handing.{handed_is}
 use Rattle.node_core.proofs.feeding.take_given.Goals as goal
 
 pub returns-in_ok-settle-in-Some-clause-goes : goal.returns-in_ok-settle-in-Some-clause-goes

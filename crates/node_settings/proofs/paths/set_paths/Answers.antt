@@ -1,7 +1,7 @@
 use Rattle.std.proofs.Common.{◌≡◌, ◌∷◌, [], ◌∙◌, List, suc, sym, ap, add-one, drop, filter}
 use Rattle.std.proofs.Math.Seq.{drop-cons}
 use Rattle.network_file.specs.declared.plan.vias.Via.{Via}
-use Rattle.node_turns.specs.States.{NodeState}
+use Rattle.node_model.specs.States.{NodeState}
 use Rattle.node_settings.specs.Settings.{is_via_of, with_vias}
 use Rattle.node_settings.proofs.Vias.{one_via}
 use Rattle.node_settings.proofs.paths.set_paths.Goals as goal

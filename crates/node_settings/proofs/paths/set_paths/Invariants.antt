@@ -1,6 +1,6 @@
 use Rattle.std.proofs.Common.{◌≡◌, drop, filter}
 use Rattle.node_core.specs.Standing.{NodeStands}
-use Rattle.node_turns.specs.States.{NodeState}
+use Rattle.node_model.specs.States.{NodeState}
 use Rattle.node_settings.specs.Settings.{is_via_of, with_vias}
 use Rattle.node_settings.proofs.paths.set_paths.Given as goal
 

@@ -1,5 +1,5 @@
 use Rattle.std.proofs.Common.{◌≡◌, ◌++◌, drop, map, suc}
-use Rattle.net_replay.specs.Events.{numbered_of}
+use Rattle.net_model.specs.Events.{numbered_of}
 use Rattle.trace_lines.specs.Events.{events_from}
 use Rattle.trace_lines.specs.Marks.{mark_at}
 use Rattle.trace_lines.proofs.events.write_events.Given as goal

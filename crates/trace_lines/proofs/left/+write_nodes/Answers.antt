@@ -1,6 +1,6 @@
-use Rattle.net_replay.specs.Reporting.{ends_left}
-use Rattle.net_replay.specs.Traces.{left_of}
-use Rattle.net_replay.proofs.Texts.{kept_joined}
+use Rattle.net_report.specs.Reporting.{ends_left}
+use Rattle.net_world.specs.Traces.{left_of}
+use Rattle.net_report.proofs.Texts.{kept_joined}
 use Rattle.trace_lines.specs.Left.{kept_text}
 use Rattle.trace_lines.proofs.left.+write_nodes.Goals as goal
 

@@ -1,6 +1,6 @@
 use Rattle.std.proofs.Common.{◌≡◌, ◌++◌, drop, suc}
 use Rattle.node_core.specs.Standing.{NodeStands}
-use Rattle.node_turns.specs.States.{NodeState}
+use Rattle.node_model.specs.States.{NodeState}
 use Rattle.trace_lines.specs.Left.{ends_text}
 use Rattle.trace_lines.proofs.left.write_ends.Given as goal
 

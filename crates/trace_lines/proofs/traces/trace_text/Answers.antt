@@ -2,8 +2,9 @@ use Rattle.std.proofs.Common.{◌≡◌, ◌++◌, ◌∙◌, ℕ, List, map, sy
 use Rattle.std.specs.Prelude.{Option}
 use Rattle.network_file.specs.declared.plan.instructions.NumberedInstruction.{NumberedInstruction}
 use Rattle.node_core.specs.Standing.{Kept}
-use Rattle.net_replay.specs.Events.{numbered_of}
-use Rattle.net_replay.specs.Traces.{MailsStand, StandFor, left_of}
+use Rattle.net_model.specs.Events.{numbered_of}
+use Rattle.net_model.specs.Standing.{MailsStand, StandFor}
+use Rattle.net_world.specs.Traces.{left_of}
 use Rattle.node_mail.specs.Lists.{StoreView}
 use Rattle.trace_lines.specs.Events.{events_from, repeats}
 use Rattle.trace_lines.specs.Marks.{mark_at}

@@ -1,7 +1,7 @@
-use Rattle.std.proofs.Common.{◌∙◌, refl}
+use Rattle.std.proofs.Common.{◌∙◌, ap, refl}
 use Rattle.ax_address.specs.Callsign.{same_call}
 use Rattle.indexmap.proofs.CallerLemmas.{insert_entry-new}
-use Rattle.link_table.specs.Standing.{width}
+use Rattle.radio_base.specs.Modulus.{modulus_size}
 use Rattle.link_table.proofs.Links.{made_stands, rests_more}
 use Rattle.link_table.proofs.held_links.HeldLinks.make.Goals as goal
 
@@ -12,6 +12,6 @@ returns-clause-rests c =
 
 pub returns-clause-goes : goal.returns-clause-goes
 returns-clause-goes c = λ t s.
-    made_stands c.args.self.now _ (width c.args.wide) c.in_ok-entry.entry c.args.route (record { own = refl; by_links = refl; wide = refl; config = refl; paths = refl }) refl
+    made_stands c.args.self.now _ (modulus_size c.args.modulus) c.in_ok-entry.entry c.args.route (record { own = refl; by_links = refl; modulus = refl; config = refl; paths = refl }) refl
     (c.in_ok-insert.ensures.entries ∙ insert_entry-new same_call c.args.self.now.links c.args.route.peer c.in_ok-entry.entry c.requires.none)
-    c.requires.own c.in_ok-entry.ensures.route c.in_ok-entry.ensures.joiner c.in_ok-entry.ensures.called c.in_ok-entry.ensures.width c.in_ok-entry.ensures.link t s
+    c.requires.own c.in_ok-entry.ensures.route c.in_ok-entry.ensures.joiner c.in_ok-entry.ensures.called (ap modulus_size c.in_ok-entry.ensures.modulus) c.in_ok-entry.ensures.link t s

@@ -11,7 +11,7 @@ send_text-requires-clause-drained c = drained_at c.args.peer.now c.args.self.now
 pub returns-in-None-clause-goes : goal.returns-in-None-clause-goes
 returns-in-None-clause-goes c = λ t s.
     at_no_link c.args.self.now _ c.args.peer.now (λ own. send_text_of own c.args.text.now c.args.now.0) (sym c.in-None.ensures.value)
-    (record { own = refl; by_links = refl; wide = refl; config = refl; paths = refl }) (ap (λ m. m.entries) c.get_mut.follows.holds-at-none) refl t s
+    (record { own = refl; by_links = refl; modulus = refl; config = refl; paths = refl }) (ap (λ m. m.entries) c.get_mut.follows.holds-at-none) refl t s
 
 pub returns-clause-rests : goal.returns-clause-rests
 returns-clause-rests c =
@@ -24,5 +24,5 @@ returns-clause-goes c = λ t s.
     at_link_stands c.args.self.now c.drop_if_down.new.self c.args.peer.now c.in-Some.entry.now c.send_text.new.self c.send_text.new.pending
     (λ own. send_text_of own c.args.text.now c.args.now.0)
     (sym c.in-Some.ensures.value) c.in_ok-send_text-in-Some.ensures.goes (ap (λ (x : HeldLinks). x.pending) rest)
-    (record { own = ap (λ (x : HeldLinks). x.own) rest; by_links = ap (λ (x : HeldLinks). x.by_links) rest; wide = ap (λ (x : HeldLinks). x.wide) rest; config = ap (λ (x : HeldLinks). x.config) rest; paths = ap (λ (x : HeldLinks). x.paths.entries) rest })
+    (record { own = ap (λ (x : HeldLinks). x.own) rest; by_links = ap (λ (x : HeldLinks). x.by_links) rest; modulus = ap (λ (x : HeldLinks). x.modulus) rest; config = ap (λ (x : HeldLinks). x.config) rest; paths = ap (λ (x : HeldLinks). x.paths.entries) rest })
     (c.drop_if_down.ensures.left ∙ ap (drop_if_down c.args.peer.now) (c.get_mut.follows.holds c.send_text.new.self).0) t s

@@ -15,9 +15,9 @@ returns-in_ok-set_up-in-Some-clause-rests c =
 pub returns-in_ok-set_up-in-Some-clause-goes : goal.returns-in_ok-set_up-in-Some-clause-goes
 returns-in_ok-set_up-in-Some-clause-goes c = λ t s.
     quiet_at c.args.self.now _ c.args.to.now c.in-Some.entry.now c.set_up.new.self table.Set_up c.args.now.0 (sym c.in-Some.ensures.value) c.in_ok-set_up-in-Some.ensures.same c.in_ok-set_up-in-Some.ensures.goes
-    refl refl refl (record { own = refl; by_links = refl; wide = refl; config = refl; paths = refl }) (c.get_mut.follows.holds c.set_up.new.self).0 t s (λ l q. set_up_stays c.args.now.0 l.link)
+    refl refl refl (record { own = refl; by_links = refl; modulus = refl; config = refl; paths = refl }) (c.get_mut.follows.holds c.set_up.new.self).0 t s (λ l q. set_up_stays c.args.now.0 l.link)
 
 pub returns-in-None-clause-goes : goal.returns-in-None-clause-goes
 returns-in-None-clause-goes c = λ t s.
     at_no_link c.args.self.now _ c.args.to.now (λ own. works.step_link own table.Set_up c.args.now.0) (sym c.in-None.ensures.value)
-    (record { own = refl; by_links = refl; wide = refl; config = refl; paths = refl }) (ap (λ m. m.entries) c.get_mut.follows.holds-at-none) refl t s
+    (record { own = refl; by_links = refl; modulus = refl; config = refl; paths = refl }) (ap (λ m. m.entries) c.get_mut.follows.holds-at-none) refl t s

@@ -14,7 +14,7 @@ arrive-requires c = record { drained = drained_at (source (view c.args.frame.now
 pub returns-in-None-clause-goes : goal.returns-in-None-clause-goes
 returns-in-None-clause-goes c = λ t s.
     at_no_link c.args.self.now _ (source (view c.args.frame.now)) (λ own w. works.arrive_at_link own (link_frame w.linked.link.rules.size (view c.args.frame.now)) c.args.now.0 w) (sym c.in-None.ensures.value)
-    (record { own = refl; by_links = refl; wide = refl; config = refl; paths = refl }) (ap (λ m. m.entries) c.get_mut.follows.holds-at-none) refl t s
+    (record { own = refl; by_links = refl; modulus = refl; config = refl; paths = refl }) (ap (λ m. m.entries) c.get_mut.follows.holds-at-none) refl t s
 
 pub returns-clause-rests : goal.returns-clause-rests
 returns-clause-rests c =
@@ -27,5 +27,5 @@ returns-clause-goes c = λ t s.
     at_link_stands c.args.self.now c.drop_if_down.new.self (source (view c.args.frame.now)) c.in-Some.entry.now c.arrive.new.self c.arrive.new.pending
     (λ own w. works.arrive_at_link own (link_frame w.linked.link.rules.size (view c.args.frame.now)) c.args.now.0 w)
     (sym c.in-Some.ensures.value) (sized (view c.args.frame.now) c.args.now.0 c.in-Some.entry.now c.arrive.new.self c.args.self.now.pending c.arrive.new.pending c.in_ok-arrive-in-Some.ensures.goes) (ap (λ (x : HeldLinks). x.pending) rest)
-    (record { own = ap (λ (x : HeldLinks). x.own) rest; by_links = ap (λ (x : HeldLinks). x.by_links) rest; wide = ap (λ (x : HeldLinks). x.wide) rest; config = ap (λ (x : HeldLinks). x.config) rest; paths = ap (λ (x : HeldLinks). x.paths.entries) rest })
+    (record { own = ap (λ (x : HeldLinks). x.own) rest; by_links = ap (λ (x : HeldLinks). x.by_links) rest; modulus = ap (λ (x : HeldLinks). x.modulus) rest; config = ap (λ (x : HeldLinks). x.config) rest; paths = ap (λ (x : HeldLinks). x.paths.entries) rest })
     (c.drop_if_down.ensures.left ∙ ap (drop_if_down (source (view c.args.frame.now))) (c.get_mut.follows.holds c.arrive.new.self).0) t s

@@ -1,7 +1,7 @@
 use Rattle.std.proofs.Common.{◌≡◌, ◌∙◌, ◌++◌, ℕ, List, [], ◌∷◌, sym, ap}
 use Rattle.std.proofs.lemmas.List.{append_cancel_left}
 use Rattle.node_core.specs.Standing.{NodeStands}
-use Rattle.node_turns.specs.States.{NodeState}
+use Rattle.node_model.specs.States.{NodeState}
 use Rattle.node_cmd.specs.Live.{HasLived, NodeAtRead, after_read, after_reads, answer_to, fetched}
 use Rattle.cmd_streams.specs.Streams.{Read, read_of}
 use Rattle.node_cmd.proofs.Fetched.{after_reads-more, answer_to_reads-more, stays-more}

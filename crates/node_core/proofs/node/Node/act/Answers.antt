@@ -4,7 +4,7 @@ use Rattle.node_core.specs.Acts.{do_act, act_of}
 use Rattle.node_core.specs.Inputs.{after_act}
 use Rattle.node_core.specs.Standing.{NodeStands, view_of, IsAnswer}
 use Rattle.node_core.specs.Sound.{IsSound}
-use Rattle.node_turns.specs.States.{State}
+use Rattle.node_model.specs.States.{State}
 use Rattle.node_core.specs.declared.station.Station.{Station}
 use Rattle.node_core.proofs.Answering.{answer_is, is_answer}
 use Rattle.node_core.specs.Bridged.{Acts}

@@ -1,6 +1,6 @@
 use Rattle.std.proofs.Common.{◌∙◌, ap, subst, sym}
 use Rattle.node_core.specs.Standing.{Kept, NodeStands, view_of}
-use Rattle.node_turns.specs.States.{State, fetch_frame}
+use Rattle.node_model.specs.States.{State, fetch_frame}
 use Rattle.node_core.specs.Bridged.{Fetches_frame}
 use Rattle.node_core.proofs.Nodes.{fetched_on, frame_told, frame_waits, led, sound_fetched}
 use Rattle.node_core.proofs.node.Node.next_frame.Goals as goal

@@ -5,7 +5,7 @@ use Rattle.node_core.specs.Inputs.{after_tick}
 use Rattle.node_core.specs.Standing.{NodeStands, view_of}
 use Rattle.node_core.specs.Broadcasts as rounds
 use Rattle.node_core.specs.Sound.{IsSound}
-use Rattle.node_turns.specs.States.{State}
+use Rattle.node_model.specs.States.{State}
 use Rattle.node_core.specs.Bridged.{Ticks}
 use Rattle.node_core.proofs.Nodes.{led, sound_on, stands_on}
 use Rattle.node_core.proofs.Outcomes.{ok_then}

@@ -1,6 +1,6 @@
 use Rattle.std.proofs.Common.{◌∙◌, ap, refl}
 use Rattle.node_core.specs.Standing.{Kept, view_of}
-use Rattle.node_turns.specs.States.{State, fetch_entry}
+use Rattle.node_model.specs.States.{State, fetch_entry}
 use Rattle.node_core.specs.declared.station.Station.{Station}
 use Rattle.node_core.specs.Bridged.{Fetches_entry}
 use Rattle.node_core.proofs.Nodes.{entry_fetched, led, sound_fetched}

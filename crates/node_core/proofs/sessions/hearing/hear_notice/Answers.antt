@@ -1,7 +1,7 @@
 use Rattle.std.proofs.Common.{◌≡◌, ◌<◌, ◌∙◌, ap, sym, length, arith}
 use Rattle.std.proofs.lemmas.List.Edits.{map_over_more}
-use Rattle.node_turns.specs.Sessions as sessions
-use Rattle.node_turns.specs.Sessions.{Session}
+use Rattle.node_model.specs.Sessions as sessions
+use Rattle.node_model.specs.Sessions.{Session}
 use Rattle.node_core.proofs.sessions.hearing.hear_notice.Goals as goal
 
 pub loop-session-preserved : goal.loop-session-preserved

@@ -1,5 +1,5 @@
 use Rattle.std.proofs.Common.{◌≡◌, ◌++◌, map, take, drop}
-use Rattle.node_turns.specs.Sessions as sessions
+use Rattle.node_model.specs.Sessions as sessions
 use Rattle.node_core.proofs.sessions.hearing.leave.Given as goal
 
 abbrev pub invariant-loop-session : goal.invariant-loop-session

@@ -1,5 +1,5 @@
 use Rattle.std.proofs.Common.{◌∙◌, filter, sym, take}
-use Rattle.node_turns.specs.Asking as views
+use Rattle.node_model.specs.Asking as views
 use Rattle.node_core.proofs.Seeing.{kept_one, left_out, pushed}
 use Rattle.node_core.proofs.sessions.views.direct_routes.Goals as goal
 use Rattle.node_core.proofs.sessions.views.direct_routes.Goals.{then-eq, else-eq}

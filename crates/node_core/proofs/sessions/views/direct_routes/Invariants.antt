@@ -1,5 +1,5 @@
 use Rattle.std.proofs.Common.{◌≡◌, ◌≤◌, filter, take, length}
-use Rattle.node_turns.specs.Asking as views
+use Rattle.node_model.specs.Asking as views
 use Rattle.node_core.proofs.sessions.views.direct_routes.Given as goal
 
 -- the first 64 direct routes of the front

@@ -1,6 +1,6 @@
 use Rattle.ax_frame.specs.Frames.{view}
 use Rattle.link_table.specs.Calls as calls
-use Rattle.node_turns.specs.Links.{arrive}
+use Rattle.node_model.specs.Links.{arrive}
 use Rattle.node_core.proofs.Holding.{links_go}
 use Rattle.node_core.proofs.station.Station.arrive.Goals as goal
 

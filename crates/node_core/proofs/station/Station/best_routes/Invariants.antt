@@ -1,7 +1,7 @@
 use Rattle.std.proofs.Common.{◌≡◌, ◌≤◌, flat_map, length, take}
 use Rattle.node_core.specs.Standing.{Holds}
-use Rattle.node_turns.specs.States.{State}
-use Rattle.node_turns.specs.Asking as views
+use Rattle.node_model.specs.States.{State}
+use Rattle.node_model.specs.Asking as views
 use Rattle.node_core.proofs.station.Station.best_routes.Given as goal
 
 -- the best routes to so many of them

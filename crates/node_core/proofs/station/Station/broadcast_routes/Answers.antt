@@ -2,7 +2,7 @@ use Rattle.std.proofs.Common.{◌≡◌, ◌∙◌, ap, arith, map, refl, subst}
 use Rattle.std.specs.List.{range_with_len}
 use Rattle.node_core.specs.Broadcasts.{frame_count, round_frame, put_all}
 use Rattle.node_core.specs.Standing.{Holds}
-use Rattle.node_turns.specs.States.{State, put}
+use Rattle.node_model.specs.States.{State, put}
 use Rattle.node_core.proofs.Holding.{put_last, settings_stay}
 use Rattle.node_core.proofs.Paging.{map_more}
 use Rattle.node_core.proofs.station.Station.broadcast_routes.Goals as goal

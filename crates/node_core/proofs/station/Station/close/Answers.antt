@@ -4,7 +4,7 @@ use Rattle.circuit_table.specs.CircuitSets.{SetStands}
 use Rattle.circuit_table.specs.Pumps as inputs
 use Rattle.circuit_table.specs.Sets as sets
 use Rattle.node_core.specs.Acts.{answer_to_close}
-use Rattle.node_turns.specs.Links.{acts}
+use Rattle.node_model.specs.Links.{acts}
 use Rattle.node_core.proofs.Holding.{set_steps}
 use Rattle.node_core.proofs.station.Station.close.Goals as goal
 

@@ -1,7 +1,7 @@
 use Rattle.std.proofs.Common.{refl, rules}
-use Rattle.node_turns.specs.Bridging as bridging
-use Rattle.node_turns.specs.States.{State}
-use Rattle.node_turns.specs.Users.{at_session}
+use Rattle.node_model.specs.Bridging as bridging
+use Rattle.node_model.specs.States.{State}
+use Rattle.node_model.specs.Users.{at_session}
 use Rattle.node_core.proofs.Placing.{session_told}
 use Rattle.node_core.proofs.station.Station.close_circuit.Goals as goal
 

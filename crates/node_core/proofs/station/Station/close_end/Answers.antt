@@ -1,6 +1,6 @@
 use Rattle.circuit_table.specs.Sets as sets
-use Rattle.node_turns.specs.Links as circuits
-use Rattle.node_turns.specs.States.{State, at_set}
+use Rattle.node_model.specs.Links as circuits
+use Rattle.node_model.specs.States.{State, at_set}
 use Rattle.node_core.proofs.Using.{drained, set_acts}
 use Rattle.node_core.proofs.station.Station.close_end.Goals as goal
 

@@ -1,5 +1,5 @@
 use Rattle.link_table.specs.Calls as calls
-use Rattle.node_turns.specs.Links.{close}
+use Rattle.node_model.specs.Links.{close}
 use Rattle.node_core.proofs.Holding.{links_go}
 use Rattle.node_core.proofs.station.Station.close_link.Goals as goal
 

@@ -1,8 +1,8 @@
 use Rattle.std.proofs.Common.{refl, rules, subst}
-use Rattle.node_turns.specs.Asking as asking
+use Rattle.node_model.specs.Asking as asking
 use Rattle.node_core.specs.Going.{HoldsTold}
-use Rattle.node_turns.specs.States.{State}
-use Rattle.node_turns.specs.Users.{at_session}
+use Rattle.node_model.specs.States.{State}
+use Rattle.node_model.specs.Users.{at_session}
 use Rattle.node_core.proofs.Placing.{session_told}
 use Rattle.node_core.proofs.station.Station.do_line.Goals as goal
 

@@ -1,6 +1,6 @@
 use Rattle.std.proofs.Common.{[], ◌∷◌}
 use Rattle.route_table.specs.Log.{Round}
-use Rattle.node_turns.specs.States.{with_items}
+use Rattle.node_model.specs.States.{with_items}
 use Rattle.node_core.proofs.Holding.{table_goes}
 use Rattle.node_core.proofs.station.Station.do_round.Goals as goal
 

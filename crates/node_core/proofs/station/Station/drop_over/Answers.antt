@@ -1,8 +1,8 @@
 use Rattle.std.proofs.Common.{◌≡◌, ◌∙◌, ap, refl, rules}
 use Rattle.std.specs.Prelude.{filter, not}
 use Rattle.std.proofs.lemmas.Fn.{filter_same}
-use Rattle.node_turns.specs.Serving.{is_over}
-use Rattle.node_turns.specs.Sessions.{Session}
+use Rattle.node_model.specs.Serving.{is_over}
+use Rattle.node_model.specs.Sessions.{Session}
 use Rattle.node_core.specs.Going.{SetHoldsTold}
 use Rattle.node_core.proofs.Holding.{with_sessions}
 use Rattle.node_core.proofs.Serving.{bare_filter}

@@ -2,9 +2,9 @@ use Rattle.std.proofs.Common.{◌∙◌, ap, sym}
 use Rattle.std.specs.Prelude.{is_some}
 use Rattle.link_table.specs.Standing.{TableStands}
 use Rattle.link_table.specs.Texts as texts
-use Rattle.node_turns.specs.Links.{has_text, take_text}
-use Rattle.node_turns.specs.States.{State}
-use Rattle.node_turns.specs.Turns.{Turn}
+use Rattle.node_model.specs.Links.{has_text, take_text}
+use Rattle.node_model.specs.States.{State}
+use Rattle.node_model.specs.Turns.{Turn}
 use Rattle.node_core.proofs.Dropping.{first_dropped, given_some, none_dropped, none_hosted}
 use Rattle.node_core.proofs.Holding.{links_go}
 use Rattle.node_core.proofs.station.Station.drop_text.Goals as goal

@@ -1,6 +1,6 @@
 use Rattle.std.proofs.Common.{◌∙◌, refl, sym, rules}
-use Rattle.node_turns.specs.Bridging as bridging
-use Rattle.node_turns.specs.States.{State}
+use Rattle.node_model.specs.Bridging as bridging
+use Rattle.node_model.specs.States.{State}
 use Rattle.node_core.proofs.Placing.{session_told}
 use Rattle.node_core.proofs.station.Station.drop_text_of.Goals as goal
 

@@ -1,8 +1,8 @@
 use Rattle.std.proofs.Common.{◌∙◌, ◌<◌, arith, sym}
-use Rattle.node_turns.specs.Links as links
-use Rattle.node_turns.specs.Serving.{drop_text, payloads}
-use Rattle.node_turns.proofs.Resting.{drop_falls}
-use Rattle.node_turns.proofs.Turns.{ends, goes_on}
+use Rattle.node_model.specs.Links as links
+use Rattle.node_model.specs.Serving.{drop_text, payloads}
+use Rattle.node_model.proofs.Resting.{drop_falls}
+use Rattle.node_model.proofs.Turns.{ends, goes_on}
 use Rattle.node_core.proofs.Weighing.{counted}
 use Rattle.node_core.proofs.station.Station.drop_texts.Goals as goal
 

@@ -1,9 +1,9 @@
 use Rattle.std.proofs.Common.{◌≡◌}
 use Rattle.link_table.specs.Kept.{kept_payloads}
-use Rattle.node_turns.specs.Serving.{drop_texts}
+use Rattle.node_model.specs.Serving.{drop_texts}
 use Rattle.node_core.specs.Going.{StandsForSome}
 use Rattle.node_core.specs.Standing.{Holds, IsDrained}
-use Rattle.node_turns.specs.States.{State}
+use Rattle.node_model.specs.States.{State}
 use Rattle.node_core.proofs.station.Station.drop_texts.Given as goal
 
 -- it stands for a node of which dropping the texts comes to the same

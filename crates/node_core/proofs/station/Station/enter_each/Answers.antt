@@ -1,10 +1,10 @@
 use Rattle.std.proofs.Common.{◌∙◌, [], ◌∷◌, refl, subst, sym}
 use Rattle.link_table.specs.Calls as calls
 use Rattle.node_core.specs.declared.entry.NodeEntry.TheVariants.{Link}
-use Rattle.node_turns.specs.Serving.{enter_notices}
+use Rattle.node_model.specs.Serving.{enter_notices}
 use Rattle.node_core.specs.Standing.{Holds}
-use Rattle.node_turns.specs.Sessions.{hear_link}
-use Rattle.node_turns.specs.States.{Of_link, State, at_links, at_sessions, enter}
+use Rattle.node_model.specs.Sessions.{hear_link}
+use Rattle.node_model.specs.States.{Of_link, State, at_links, at_sessions, enter}
 use Rattle.node_core.proofs.Entering.{none_fetched, none_to_enter, notice_moves, told_some}
 use Rattle.node_core.proofs.Hearing.{heard_link}
 use Rattle.node_core.proofs.Holding.{entered, with_sessions}

@@ -1,7 +1,7 @@
 use Rattle.std.proofs.Common.{◌≡◌, length}
-use Rattle.node_turns.specs.Serving.{enter_notices}
+use Rattle.node_model.specs.Serving.{enter_notices}
 use Rattle.node_core.specs.Standing.{Holds}
-use Rattle.node_turns.specs.States.{State}
+use Rattle.node_model.specs.States.{State}
 use Rattle.node_core.proofs.station.Station.enter_each.Given as goal
 
 -- it stands for a node of which entering the notices comes to the same

@@ -1,8 +1,8 @@
 use Rattle.std.proofs.Common.{[], ◌∷◌}
 use Rattle.link_table.specs.Calls as calls
 use Rattle.route_table.specs.Log.{Failure}
-use Rattle.node_turns.specs.Links.{break_link}
-use Rattle.node_turns.specs.States.{at_links}
+use Rattle.node_model.specs.Links.{break_link}
+use Rattle.node_model.specs.States.{at_links}
 use Rattle.node_core.proofs.Holding.{links_go, table_goes, with_carrier}
 use Rattle.node_core.proofs.station.Station.fail_link.Goals as goal
 

@@ -2,12 +2,12 @@ use Rattle.std.proofs.Common.{◌≡◌, ◌∙◌, [], refl, sym, ap, subst}
 use Rattle.std.specs.Prelude.{true, false}
 use Rattle.circuit_table.specs.Sets as sets
 use Rattle.circuit_table.specs.Standing as answers
-use Rattle.node_turns.specs.Bridging as bridging
-use Rattle.node_turns.specs.Links as circuits
-use Rattle.node_turns.specs.Pumping.{pump}
+use Rattle.node_model.specs.Bridging as bridging
+use Rattle.node_model.specs.Links as circuits
+use Rattle.node_model.specs.Pumping.{pump}
 use Rattle.node_core.specs.Going.{HoldsTold}
-use Rattle.node_turns.specs.States.{State, at_set}
-use Rattle.node_turns.specs.Users as users
+use Rattle.node_model.specs.States.{State, at_set}
+use Rattle.node_model.specs.Users as users
 use Rattle.node_core.proofs.Placing.{noted}
 use Rattle.node_core.proofs.Using.{drained, not_taken, resting, set_acts}
 use Rattle.node_core.proofs.station.Station.give_from.Goals as goal

@@ -1,8 +1,8 @@
 use Rattle.std.proofs.Common.{◌∙◌, refl, ap, subst, rules}
-use Rattle.node_turns.specs.Bridging as bridging
+use Rattle.node_model.specs.Bridging as bridging
 use Rattle.node_core.specs.Going.{HoldsTold}
-use Rattle.node_turns.specs.States.{State}
-use Rattle.node_turns.specs.Users.{at_session, say}
+use Rattle.node_model.specs.States.{State}
+use Rattle.node_model.specs.Users.{at_session, say}
 use Rattle.node_core.proofs.Placing.{session_told}
 use Rattle.node_core.proofs.station.Station.give_reply.Goals as goal
 

@@ -3,8 +3,8 @@ use Rattle.std.specs.Prelude.{Option, Some, None}
 use Rattle.ax_address.specs.Callsign.{Callsign}
 use Rattle.circuit_table.specs.CircuitSets.{SetStands, partner_at}
 use Rattle.circuit_table.specs.Pumps.{at_rest}
-use Rattle.node_turns.specs.States.{next_hop}
-use Rattle.node_turns.specs.Users.{end_at, goes_over, hop_to}
+use Rattle.node_model.specs.States.{next_hop}
+use Rattle.node_model.specs.Users.{end_at, goes_over, hop_to}
 use Rattle.node_core.proofs.station.Station.goes_over.Goals as goal
 
 pub returns-in-None : goal.returns-in-None

@@ -1,7 +1,7 @@
 use Rattle.std.proofs.Common.{◌∙◌, arith, refl, subst, sym}
-use Rattle.node_turns.specs.Serving.{greet_link}
+use Rattle.node_model.specs.Serving.{greet_link}
 use Rattle.node_core.specs.Going.{HoldsTold}
-use Rattle.node_turns.specs.States.{State}
+use Rattle.node_model.specs.States.{State}
 use Rattle.node_core.proofs.Hearing.{bare_greets, greets_next, greets_none}
 use Rattle.node_core.proofs.Holding.{with_sessions}
 use Rattle.node_core.proofs.station.Station.greet_each.Goals as goal

@@ -1,8 +1,8 @@
 use Rattle.std.proofs.Common.{◌≡◌, List, drop}
-use Rattle.node_turns.specs.Serving.{greet_each}
-use Rattle.node_turns.specs.Sessions.{Session}
+use Rattle.node_model.specs.Serving.{greet_each}
+use Rattle.node_model.specs.Sessions.{Session}
 use Rattle.node_core.specs.Going.{HoldsTold}
-use Rattle.node_turns.specs.States.{State}
+use Rattle.node_model.specs.States.{State}
 use Rattle.node_core.proofs.station.Station.greet_each.Given as goal
 
 -- of the sessions that there are now, greeting what is left of the links comes to the same

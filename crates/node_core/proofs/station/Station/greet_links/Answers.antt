@@ -1,8 +1,8 @@
 use Rattle.std.proofs.Common.{◌∙◌, subst}
-use Rattle.node_turns.specs.Links as links
-use Rattle.node_turns.specs.Serving.{greet_each}
+use Rattle.node_model.specs.Links as links
+use Rattle.node_model.specs.Serving.{greet_each}
 use Rattle.node_core.specs.Going.{HoldsTold}
-use Rattle.node_turns.specs.States.{at_sessions}
+use Rattle.node_model.specs.States.{at_sessions}
 use Rattle.node_core.proofs.station.Station.greet_links.Goals as goal
 
 pub returns : goal.returns

@@ -1,5 +1,5 @@
 use Rattle.std.proofs.Common.{◌∙◌, ap}
-use Rattle.node_turns.specs.Serving as serving
+use Rattle.node_model.specs.Serving as serving
 use Rattle.node_core.proofs.Keeping.{served_bare}
 use Rattle.node_core.proofs.station.Station.is_served.Goals as goal
 

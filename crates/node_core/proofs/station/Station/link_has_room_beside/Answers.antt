@@ -1,6 +1,6 @@
 use Rattle.std.proofs.Common.{refl}
 use Rattle.link_table.specs.Standing.{TableStands}
-use Rattle.node_turns.specs.Links.{room}
+use Rattle.node_model.specs.Links.{room}
 use Rattle.node_core.proofs.station.Station.link_has_room_beside.Goals as goal
 
 pub returns : goal.returns

@@ -1,5 +1,5 @@
 use Rattle.std.proofs.Common.{◌∙◌, ap, filter, take}
-use Rattle.node_turns.specs.Asking as views
+use Rattle.node_model.specs.Asking as views
 use Rattle.node_core.proofs.Seeing.{neighbours_seen}
 use Rattle.node_core.proofs.station.Station.neighbours.Goals as goal
 

@@ -1,5 +1,5 @@
 use Rattle.std.proofs.Common.{◌≡◌, ◌-◌, ◌∙◌, ap, arith, flat_map, length, take}
-use Rattle.node_turns.specs.Asking as views
+use Rattle.node_model.specs.Asking as views
 use Rattle.node_core.proofs.Seeing.{nodes_seen}
 use Rattle.node_core.proofs.station.Station.nodes.Goals as goal
 

@@ -5,7 +5,7 @@ use Rattle.link_table.specs.Calls as calls
 use Rattle.link_table.specs.Standing.{TableStands}
 use Rattle.node_core.specs.declared.acts.ActDone.TheVariants.{Done}
 use Rattle.node_core.specs.Acts.{open_by, open_refusal}
-use Rattle.node_turns.specs.Links.{open_answer, open_link}
+use Rattle.node_model.specs.Links.{open_answer, open_link}
 use Rattle.node_core.specs.Going.{Answers}
 use Rattle.node_core.proofs.Holding.{links_go, with_carrier}
 use Rattle.node_core.proofs.Hosted.{links_stay, open_known}

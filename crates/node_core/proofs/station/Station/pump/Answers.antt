@@ -1,6 +1,6 @@
 use Rattle.std.proofs.Common.{◌≡◌, ◌∙◌, arith, false, nat_lt, length, refl}
 use Rattle.std.proofs.lemmas.Bool.Decides.{nat_tests}
-use Rattle.node_turns.specs.Pumping.{pump}
+use Rattle.node_model.specs.Pumping.{pump}
 use Rattle.node_core.specs.Standing.{Holds}
 use Rattle.node_core.proofs.Entering.{told_by_length}
 use Rattle.node_core.proofs.Nodes.{pumped_told}

@@ -1,10 +1,10 @@
 use Rattle.std.proofs.Common.{◌++◌, ◌∙◌, [], ◌∷◌, refl, subst, sym}
 use Rattle.circuit_table.specs.Standing.{event_told}
 use Rattle.node_core.specs.declared.entry.NodeEntry.TheVariants.{Set}
-use Rattle.node_turns.specs.Pumping.{pump}
+use Rattle.node_model.specs.Pumping.{pump}
 use Rattle.node_core.specs.Standing.{Holds}
-use Rattle.node_turns.specs.Sessions.{hear_circuits}
-use Rattle.node_turns.specs.States.{Of_set, State}
+use Rattle.node_model.specs.Sessions.{hear_circuits}
+use Rattle.node_model.specs.States.{Of_set, State}
 use Rattle.node_core.proofs.Entering.{told_by_length}
 use Rattle.node_core.proofs.Holding.{entered}
 use Rattle.node_core.proofs.Nodes.{pumped_told}

@@ -1,8 +1,8 @@
 use Rattle.std.proofs.Common.{◌≡◌}
 use Rattle.circuit_table.specs.CircuitSets.{untold_by}
-use Rattle.node_turns.specs.Pumping.{pump}
+use Rattle.node_model.specs.Pumping.{pump}
 use Rattle.node_core.specs.Standing.{Holds}
-use Rattle.node_turns.specs.States.{State}
+use Rattle.node_model.specs.States.{State}
 use Rattle.node_core.proofs.station.Station.pump_on.Given as goal
 
 -- it stands for a node that is pumped to the same

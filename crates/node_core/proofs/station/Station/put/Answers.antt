@@ -2,7 +2,7 @@ use Rattle.std.proofs.Common.{◌≡◌, ◌++◌, ◌∙◌, [], ◌∷◌, Lis
 use Rattle.link_table.specs.Calls.{fetch}
 use Rattle.link_table.specs.declared.written.Written.{Written}
 use Rattle.node_core.specs.Standing.{Holds}
-use Rattle.node_turns.specs.States.{State, at_links}
+use Rattle.node_model.specs.States.{State, at_links}
 use Rattle.node_core.proofs.Holding.{put_moves, put_none, with_own}
 use Rattle.node_core.proofs.station.Station.put.Goals as goal
 

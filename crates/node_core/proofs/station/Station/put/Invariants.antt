@@ -1,7 +1,7 @@
 use Rattle.std.proofs.Common.{◌≡◌, length}
 use Rattle.link_table.specs.declared.written.Written.{Written}
 use Rattle.node_core.specs.Standing.{Holds}
-use Rattle.node_turns.specs.States.{State, put}
+use Rattle.node_model.specs.States.{State, put}
 use Rattle.node_core.proofs.station.Station.put.Given as goal
 
 -- it stands for a node from which putting a frame out comes to the same

@@ -1,7 +1,7 @@
 use Rattle.std.proofs.Common.{refl, rules}
-use Rattle.node_turns.specs.Asking as asking
-use Rattle.node_turns.specs.States.{State}
-use Rattle.node_turns.specs.Users.{at_session, say}
+use Rattle.node_model.specs.Asking as asking
+use Rattle.node_model.specs.States.{State}
+use Rattle.node_model.specs.Users.{at_session, say}
 use Rattle.node_core.proofs.Placing.{session_told}
 use Rattle.node_core.proofs.station.Station.say_bye.Goals as goal
 

@@ -1,8 +1,8 @@
 use Rattle.std.proofs.Common.{subst}
 use Rattle.link_table.specs.Standing.{TableStands}
-use Rattle.node_turns.specs.Links.{text_answer}
+use Rattle.node_model.specs.Links.{text_answer}
 use Rattle.node_core.specs.Standing.{Holds}
-use Rattle.node_turns.specs.Users.{send_if_ok}
+use Rattle.node_model.specs.Users.{send_if_ok}
 use Rattle.node_core.proofs.Holding.{with_carrier}
 use Rattle.node_core.proofs.Using.{sent_holds, sent_told}
 use Rattle.node_core.proofs.station.Station.send.Goals as goal

@@ -5,7 +5,7 @@ use Rattle.link_table.specs.Texts as texts
 use Rattle.link_table.specs.Standing.{TableStands}
 use Rattle.node_core.specs.declared.acts.ActDone.TheVariants.{Done}
 use Rattle.node_core.specs.Acts.{send_by, text_refusal}
-use Rattle.node_turns.specs.Links.{text_answer, send_text}
+use Rattle.node_model.specs.Links.{text_answer, send_text}
 use Rattle.node_core.specs.Going.{Answers}
 use Rattle.node_core.proofs.Holding.{links_go, with_carrier}
 use Rattle.node_core.proofs.Hosted.{links_stay, text_known}

@@ -1,5 +1,5 @@
 use Rattle.std.proofs.Common.{◌<◌, ◌≤◌, arith, length, refl, subst, sym}
-use Rattle.node_turns.specs.Serving.{serve, serve_all}
+use Rattle.node_model.specs.Serving.{serve, serve_all}
 use Rattle.node_core.specs.Going.{HoldsTold}
 use Rattle.node_core.proofs.Serving.{none_more, one_more, same_number}
 use Rattle.node_core.proofs.station.Station.serve_each.Goals as goal

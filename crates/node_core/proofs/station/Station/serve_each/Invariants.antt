@@ -1,7 +1,7 @@
 use Rattle.std.proofs.Common.{◌≡◌, ◌+◌, ℕ, length}
-use Rattle.node_turns.specs.Serving.{serve_all}
+use Rattle.node_model.specs.Serving.{serve_all}
 use Rattle.node_core.specs.Going.{HoldsTold, StandsTold}
-use Rattle.node_turns.specs.States.{State}
+use Rattle.node_model.specs.States.{State}
 use Rattle.node_core.proofs.Serving.{IsLeft}
 use Rattle.node_core.proofs.station.Station.serve_each.Given as goal
 

@@ -1,9 +1,9 @@
 use Rattle.std.proofs.Common.{◌≡◌, ◌∙◌, true, subst, sym}
-use Rattle.node_turns.specs.Bridging as bridging
-use Rattle.node_turns.specs.Serving as serving
+use Rattle.node_model.specs.Bridging as bridging
+use Rattle.node_model.specs.Serving as serving
 use Rattle.node_core.specs.Going.{HasTurned}
-use Rattle.node_turns.specs.States.{State}
-use Rattle.node_turns.specs.Turns.{or_else}
+use Rattle.node_model.specs.States.{State}
+use Rattle.node_model.specs.Turns.{or_else}
 use Rattle.node_core.proofs.Outcomes.{if_ok}
 use Rattle.node_core.proofs.Serving.{or_first, or_next}
 use Rattle.node_core.proofs.station.Station.serve_once.Goals as goal

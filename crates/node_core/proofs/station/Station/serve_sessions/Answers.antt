@@ -1,5 +1,5 @@
-use Rattle.node_turns.specs.Serving.{greet_links, serve_all, serve_sessions}
-use Rattle.node_turns.specs.States.{State}
+use Rattle.node_model.specs.Serving.{greet_links, serve_all, serve_sessions}
+use Rattle.node_model.specs.States.{State}
 use Rattle.node_core.proofs.station.Station.serve_sessions.Goals as goal
 
 pub serve_each-requires : goal.serve_each-requires

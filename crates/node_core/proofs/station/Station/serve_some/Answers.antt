@@ -1,9 +1,9 @@
 use Rattle.std.proofs.Common.{◌≡◌, ◌∙◌, subst, sym}
 use Rattle.std.specs.Prelude.{false, if◌then◌else◌}
 use Rattle.circuit_table.specs.Pumps.{Waiting, at_rest}
-use Rattle.node_turns.specs.Serving.{serve_sessions, drop_turn}
+use Rattle.node_model.specs.Serving.{serve_sessions, drop_turn}
 use Rattle.node_core.specs.Going.{HasTurned}
-use Rattle.node_turns.proofs.Settled.{dropped_set}
+use Rattle.node_model.proofs.Settled.{dropped_set}
 use Rattle.node_core.proofs.station.Station.serve_some.Goals as goal
 
 pub returns-in_ok-dropped : goal.returns-in_ok-dropped

@@ -1,8 +1,8 @@
 use Rattle.std.proofs.Common.{◌≡◌, false, length, refl, rules, subst, sym}
 use Rattle.node_core.specs.Going.{HasTurned}
-use Rattle.node_turns.specs.States.{State}
-use Rattle.node_turns.specs.Turns.{Turn}
-use Rattle.node_turns.proofs.Settled.{users_idle}
+use Rattle.node_model.specs.States.{State}
+use Rattle.node_model.specs.Turns.{Turn}
+use Rattle.node_model.proofs.Settled.{users_idle}
 use Rattle.node_core.proofs.Serving.{nobody_held}
 use Rattle.node_core.proofs.station.Station.serve_users.Goals as goal
 

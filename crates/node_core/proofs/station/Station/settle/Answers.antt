@@ -1,10 +1,10 @@
 use Rattle.std.proofs.Common.{◌∙◌, ◌<◌, sym}
 use Rattle.node_core.specs.Inputs.{after_input, turns_settle}
-use Rattle.node_turns.specs.Serving.{turn}
-use Rattle.node_turns.proofs.Settled.{turn_falls, turn_told}
-use Rattle.node_turns.proofs.Turns.{settled_end, settled_on}
+use Rattle.node_model.specs.Serving.{turn}
+use Rattle.node_model.proofs.Settled.{turn_falls, turn_told}
+use Rattle.node_model.proofs.Turns.{settled_end, settled_on}
 use Rattle.node_core.proofs.Weighing.{same_left}
-use Rattle.node_turns.proofs.Weights.{left}
+use Rattle.node_model.proofs.Weights.{left}
 use Rattle.node_core.proofs.station.Station.settle.Goals as goal
 
 pub loop-init : goal.loop-init

@@ -1,8 +1,8 @@
 use Rattle.std.proofs.Common.{◌≡◌}
-use Rattle.node_turns.specs.Pumping.{pending}
+use Rattle.node_model.specs.Pumping.{pending}
 use Rattle.node_core.specs.Inputs.{after_input}
 use Rattle.node_core.specs.Standing.{Holds}
-use Rattle.node_turns.specs.States.{State}
+use Rattle.node_model.specs.States.{State}
 use Rattle.node_core.proofs.Weighing.{weight}
 use Rattle.node_core.proofs.station.Station.settle.Given as goal
 

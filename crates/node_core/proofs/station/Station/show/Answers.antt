@@ -1,7 +1,7 @@
 use Rattle.std.proofs.Common.{◌∙◌, ap, subst}
 use Rattle.node_prompt.specs.Replies as texts
-use Rattle.node_turns.specs.Bridging as bridging
-use Rattle.node_turns.specs.Users.{say}
+use Rattle.node_model.specs.Bridging as bridging
+use Rattle.node_model.specs.Users.{say}
 use Rattle.node_core.specs.Going.{HoldsTold}
 use Rattle.node_core.proofs.station.Station.show.Goals as goal
 

@@ -5,7 +5,7 @@ use Rattle.circuit_table.specs.Pumps as inputs
 use Rattle.circuit_table.specs.Sets as sets
 use Rattle.circuit_table.specs.Standing.{message_at}
 use Rattle.node_core.specs.Acts.{answer_to_take}
-use Rattle.node_turns.specs.Links.{acts}
+use Rattle.node_model.specs.Links.{acts}
 use Rattle.node_core.proofs.Holding.{set_steps}
 use Rattle.node_core.proofs.station.Station.take.Goals as goal
 

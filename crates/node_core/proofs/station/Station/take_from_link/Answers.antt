@@ -2,13 +2,13 @@ use Rattle.std.proofs.Common.{◌≡◌, ◌∙◌, refl, subst, rules}
 use Rattle.std.specs.Prelude.{true, false}
 use Rattle.link_table.specs.Standing.{TableStands}
 use Rattle.link_table.specs.Table.{Table}
-use Rattle.node_turns.specs.Links as links
+use Rattle.node_model.specs.Links as links
 use Rattle.node_core.specs.Standing.{Holds}
-use Rattle.node_turns.specs.States.{State, at_links}
-use Rattle.node_turns.specs.Users as users
+use Rattle.node_model.specs.States.{State, at_links}
+use Rattle.node_model.specs.Users as users
 use Rattle.node_core.proofs.Holding.{with_carrier}
 use Rattle.node_core.proofs.Using.{given_has, given_text, text_taken}
-use Rattle.node_turns.proofs.Parts.{untaken}
+use Rattle.node_model.proofs.Parts.{untaken}
 use Rattle.node_core.proofs.Placing.{logged, session_goes}
 use Rattle.node_core.proofs.station.Station.take_from_link.Goals as goal
 

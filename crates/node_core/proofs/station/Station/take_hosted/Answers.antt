@@ -1,7 +1,7 @@
 use Rattle.std.proofs.Common.{◌≡◌, ◌∙◌, refl}
 use Rattle.std.specs.Prelude.{true, false}
 use Rattle.link_table.specs.Standing.{TableStands}
-use Rattle.node_turns.specs.Links as links
+use Rattle.node_model.specs.Links as links
 use Rattle.node_core.proofs.Using.{given_has, given_text, text_taken}
 use Rattle.node_core.proofs.station.Station.take_hosted.Goals as goal
 

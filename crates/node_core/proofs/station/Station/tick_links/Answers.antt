@@ -1,5 +1,5 @@
 use Rattle.link_table.specs.Calls as calls
-use Rattle.node_turns.specs.Links.{tick_links}
+use Rattle.node_model.specs.Links.{tick_links}
 use Rattle.node_core.proofs.Holding.{links_go}
 use Rattle.node_core.proofs.station.Station.tick_links.Goals as goal
 

@@ -1,5 +1,5 @@
 use Rattle.circuit_table.specs.Pumps as inputs
-use Rattle.node_turns.specs.Links.{ticks}
+use Rattle.node_model.specs.Links.{ticks}
 use Rattle.node_core.proofs.Holding.{set_steps}
 use Rattle.node_core.proofs.station.Station.tick_set.Goals as goal
 

@@ -1,13 +1,13 @@
 use Rattle.std.proofs.Common.{◌∙◌, ap, refl, subst, rules}
 use Rattle.circuit_table.specs.Sets as sets
 use Rattle.node_prompt.specs.Replies as texts
-use Rattle.node_turns.specs.Asking as asking
-use Rattle.node_turns.specs.Bridging as bridging
-use Rattle.node_turns.specs.Links as circuits
-use Rattle.node_turns.specs.Pumping.{pump}
+use Rattle.node_model.specs.Asking as asking
+use Rattle.node_model.specs.Bridging as bridging
+use Rattle.node_model.specs.Links as circuits
+use Rattle.node_model.specs.Pumping.{pump}
 use Rattle.node_core.specs.Going.{HoldsTold}
-use Rattle.node_turns.specs.States.{State, at_set}
-use Rattle.node_turns.specs.Users.{at_session, say}
+use Rattle.node_model.specs.States.{State, at_set}
+use Rattle.node_model.specs.Users.{at_session, say}
 use Rattle.node_core.proofs.Asked.{answered, prompt_stays, refused_told, unspent}
 use Rattle.node_core.proofs.Placing.{session_goes}
 use Rattle.node_core.proofs.Refusing.{not_spent}

@@ -1,6 +1,6 @@
-use Rattle.node_turns.specs.Pumping.{pump}
-use Rattle.node_turns.specs.Serving.{enter_notices, serve_users}
-use Rattle.node_turns.specs.States.{State}
+use Rattle.node_model.specs.Pumping.{pump}
+use Rattle.node_model.specs.Serving.{enter_notices, serve_users}
+use Rattle.node_model.specs.States.{State}
 use Rattle.node_core.proofs.Using.{drained}
 use Rattle.node_core.proofs.station.Station.turn.Goals as goal
 

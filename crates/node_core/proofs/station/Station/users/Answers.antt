@@ -1,6 +1,6 @@
 use Rattle.std.proofs.Common.{append-nil, arith, sym}
 use Rattle.circuit_table.specs.CircuitSets.{held_ids}
-use Rattle.node_turns.specs.Asking as views
+use Rattle.node_model.specs.Asking as views
 use Rattle.node_core.proofs.Seeing.{next_pushed}
 use Rattle.node_core.proofs.station.Station.users.Goals as goal
 use Rattle.node_core.proofs.station.Station.users.Goals.{in-Some, in_default}

@@ -1,8 +1,8 @@
 use Rattle.std.proofs.Common.{◌≡◌, ◌≤◌, flat_map, length, take}
 use Rattle.circuit_table.specs.CircuitSets.{held_ids}
 use Rattle.node_core.specs.Going.{HoldsTold}
-use Rattle.node_turns.specs.States.{State}
-use Rattle.node_turns.specs.Asking as views
+use Rattle.node_model.specs.States.{State}
+use Rattle.node_model.specs.Asking as views
 use Rattle.node_core.proofs.station.Station.users.Given as goal
 
 -- the partners of so many of the ends

@@ -6,7 +6,7 @@ use Rattle.circuit_table.specs.Pumps as inputs
 use Rattle.circuit_table.specs.Sets as sets
 use Rattle.node_core.specs.declared.acts.ActDone.TheVariants.{Done}
 use Rattle.node_core.specs.Acts.{write_by, write_refusal}
-use Rattle.node_turns.specs.Links.{acts}
+use Rattle.node_model.specs.Links.{acts}
 use Rattle.node_core.specs.Going.{Answers}
 use Rattle.node_core.proofs.Holding.{set_steps, set_unchanged}
 use Rattle.node_core.proofs.station.Station.write.Goals as goal

@@ -1,8 +1,8 @@
 use Rattle.std.proofs.Common.{refl, subst, rules}
-use Rattle.node_turns.specs.Bridging as bridging
+use Rattle.node_model.specs.Bridging as bridging
 use Rattle.node_core.specs.Going.{HoldsTold}
-use Rattle.node_turns.specs.States.{State}
-use Rattle.node_turns.specs.Users as users
+use Rattle.node_model.specs.States.{State}
+use Rattle.node_model.specs.Users as users
 use Rattle.node_core.proofs.Placing.{logged, session_told}
 use Rattle.node_core.proofs.station.Station.write_rest.Goals as goal
 

@@ -1,8 +1,8 @@
 use Rattle.std.proofs.Common.{subst}
 use Rattle.circuit_table.specs.Sets as sets
 use Rattle.node_core.specs.Standing.{Holds}
-use Rattle.node_turns.specs.States.{State}
-use Rattle.node_turns.specs.Users as users
+use Rattle.node_model.specs.States.{State}
+use Rattle.node_model.specs.Users as users
 use Rattle.node_core.proofs.Using.{drained, resting, written_holds}
 use Rattle.node_core.proofs.station.Station.write_to.Goals as goal
 

@@ -1,5 +1,5 @@
 use Rattle.std.proofs.Common.{◌≡◌, ◌∙◌, sym, ap, arith, drop, length, length-drop}
-use Rattle.node_turns.specs.Sessions.{Session}
+use Rattle.node_model.specs.Sessions.{Session}
 use Rattle.node_core.proofs.sessions.session.Session.cut_line.Goals as goal
 
 pub overflow_add-self : goal.overflow_add-self

@@ -1,0 +1,19 @@
+-- In each network an end is told that its retries are used up exactly where there was one expiry more than there are retries.
+use Rattle.std.proofs.Common.{subst, List, [], ◌∷◌, ◌++◌}
+use Rattle.circuit_set.specs.Safe as sets
+use Rattle.circuit_table.specs.Runs.{AreSteps, Step}
+use Rattle.net_laws.specs.Promises.{NetworksAreSound, RunsThrough, WorldsAreRuns, EachTellsRetries}
+use Rattle.net_model.specs.SoundPlans.{first_sets}
+
+front_steps : (xs ys : List Step) → AreSteps (xs ++ ys) → AreSteps xs
+front_steps [] ys a = tt
+front_steps (x ∷ xs) ys a = (a.0, front_steps xs ys a.1)
+
+pub each_tells_retries : NetworksAreSound → WorldsAreRuns → sets.RetriesAreTold → EachTellsRetries
+each_tells_retries sounds runs told bytes plan e done later is =
+    let r : RunsThrough plan done later = runs bytes plan e done later is in
+    record {
+      steps = r.steps;
+      run = r.is;
+      told = λ before after s. told (first_sets plan) (sounds bytes plan e).starts before (front_steps before after (subst AreSteps s r.is.are));
+    }

@@ -1,0 +1,11 @@
+pub mod Oldest
+pub mod Noting
+pub mod Numbers
+pub mod Remembering
+pub mod Containing
+pub mod Stores
+pub mod Continuing
+pub mod MailWalks
+pub mod LineWalks
+pub mod Looks
+pub mod WhatWasTold

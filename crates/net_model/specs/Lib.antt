@@ -1,0 +1,13 @@
+pub mod Tables
+pub mod Events
+pub mod Ends
+pub mod Starting
+pub mod World
+pub mod Refused
+pub mod Mailing
+pub mod Lines
+pub mod Circuits
+pub mod Standing
+pub mod Answers
+pub mod Stores
+pub mod SoundPlans

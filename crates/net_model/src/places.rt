@@ -1,0 +1,26 @@
+//! The places of nodes by their numbers, and a line at one.
+ghost use Rattle.std.specs.Prelude.{◌≡◌};
+ghost use Rattle.std.specs.List.{position_or_len};
+ghost use Rattle.net_model.specs.Starting.{has_number};
+
+use network_file::Declaration;
+
+/// Where a line is done: its number, and the number and the place of its node.
+#[derive(Clone, Copy)]
+pub struct LineAt {
+    pub line: u32,
+    pub node: u8,
+    pub at: usize,
+}
+
+/// The place of the node of that number, or how many nodes there are.
+pub fn place_of(declared: &[Declaration], number: u8) -> usize
+    ensures { result ≡ position_or_len (has_number number) declared.now }
+{
+    for at in 0..declared.len() {
+        if declared[at].node == number {
+            return at;
+        }
+    }
+    declared.len()
+}

@@ -1,6 +1,0 @@
-use Rattle.std.proofs.Common.{take}
-use Rattle.net_replay.specs.World.{AllSettled}
-use Rattle.net_replay.proofs.air.open_from.Given as goal
-
-abbrev pub invariant-loop-at : goal.invariant-loop-at
-invariant-loop-at l = AllSettled (take l.at l.frames)

@@ -1,5 +1,0 @@
-use Rattle.net_replay.proofs.Sound.{networks_are_sound}
-use Rattle.net_replay.proofs.laws.networks_are_sound.Goals as goal
-
-pub returns : goal.returns
-returns c = networks_are_sound c.networks_fit.ensures.calls c.networks_fit.ensures.pairs c.networks_fit.ensures.ranges

@@ -1,5 +1,0 @@
-use Rattle.net_replay.proofs.Logs.{tables_of_logs}
-use Rattle.net_replay.proofs.laws.tables_of_logs.Goals as goal
-
-pub returns : goal.returns
-returns c = tables_of_logs

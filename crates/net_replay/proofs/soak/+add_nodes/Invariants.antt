@@ -1,5 +1,0 @@
-use Rattle.std.proofs.Common.{length}
-use Rattle.net_replay.proofs.soak.+add_nodes.Given as goal
-
-abbrev pub decreases-add_nodes : goal.decreases-add_nodes
-decreases-add_nodes l = length l.declared.now

@@ -1,6 +1,0 @@
-use Rattle.std.proofs.Common.{◌≡◌, ◌++◌, ◌-◌}
-use Rattle.net_replay.specs.Starting.{by_number}
-use Rattle.net_replay.proofs.stations.declared_by_number.Given as goal
-
-abbrev pub invariant-loop-number : goal.invariant-loop-number
-invariant-loop-number l = l.all.items ++ by_number l.network.declared l.number (17 - l.number) ≡ by_number l.network.declared 1 16

@@ -1,8 +1,0 @@
-use Rattle.std.proofs.Common.{◌≡◌, ◌-◌}
-use Rattle.net_replay.specs.Lines.{cut}
-use Rattle.net_replay.specs.Running.{Stands, course}
-use Rattle.net_replay.specs.World.{World}
-use Rattle.net_replay.proofs.world.World.cut.Given as goal
-
-abbrev pub invariant-loop : goal.invariant-loop
-invariant-loop l = (w : World) → Stands (course l.fn.self) w → (v : World) × Stands (course l.self) v × (cut l.line (l.count - l.counter) v ≡ cut l.line l.count w)

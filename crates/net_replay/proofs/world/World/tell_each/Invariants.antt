@@ -1,8 +1,0 @@
-use Rattle.std.proofs.Common.{map}
-use Rattle.net_replay.specs.Events.{event_of}
-use Rattle.net_replay.specs.Running.{GoesOn, course}
-use Rattle.net_replay.specs.World.{tell}
-use Rattle.net_replay.proofs.world.World.tell_each.Given as goal
-
-abbrev pub invariant-loop-event : goal.invariant-loop-event
-invariant-loop-event l = GoesOn (course l.fn.self) (course l.self) (tell l.line (map event_of l.yielded))

@@ -1,5 +1,0 @@
-//! The lines of a report on links, circuits, datagrams, mail and tables, and the words in them.
-pub mod lines;
-pub mod mails;
-pub mod tables;
-pub mod words;

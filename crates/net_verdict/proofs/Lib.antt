@@ -1,0 +1,4 @@
+pub mod Judged
+pub mod Blames
+pub mod LateLines
+pub mod Verdicts

@@ -1,0 +1,16 @@
+pub mod Runs
+pub mod Placing
+pub mod Entering
+pub mod Airing
+pub mod Growing
+pub mod Faults
+pub mod Reaching
+pub mod Answered
+pub mod Telling
+pub mod Bursts
+pub mod Handing
+pub mod MailTexts
+pub mod Looking
+pub mod Turning
+pub mod Offering
+pub mod Allowances

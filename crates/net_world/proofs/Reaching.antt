@@ -1,0 +1,61 @@
+-- Something reaches the node at a place.
+use Rattle.std.proofs.Common.{◌≡◌, ◌<◌, ◌≤◌, ◌∙◌, ◌++◌, ℕ, sym, ap, subst, length, get_or, set}
+use Rattle.std.specs.Prelude.{None, min, slice_get, Result}
+use Rattle.node_core.specs.declared.acts.ActDone.{ActDone}
+use Rattle.node_core.specs.declared.acts.ActRefusal.{ActRefusal}
+use Rattle.node_core.specs.Acts.{UserAct}
+use Rattle.node_core.specs.Inputs.{act_answer, after_input, after_items, new_items, settled_act}
+use Rattle.node_core.specs.Standing.{Kept, NodeStands}
+use Rattle.node_core.specs.Broadcasts.{tick}
+use Rattle.node_model.specs.States.{NodeState}
+use Rattle.net_world.specs.Running.{Course, GoesOn, Stands, all_entries, change}
+use Rattle.net_model.specs.Starting.{Placed}
+use Rattle.net_model.specs.World.{Act, Bytes, Input, Time, World, after, answer, reach}
+use Rattle.net_world.proofs.Entering.{reach_is}
+use Rattle.net_model.proofs.Looks.{answers, reaches}
+use Rattle.net_world.proofs.Placing.{at_place, changed, past_place, same_moment, with_nodes}
+
+-- ---- the code's time is the world's for a node
+
+same_after : (now later : ℕ) (input : Input) (n : NodeState) → now ≡ min later 18446744073709551615 → after now input n ≡ after later input n
+same_after now later (Bytes bytes) n e =
+    ap (λ m. record n { stream = n.stream ++ bytes; station = after_items m (new_items n.stream bytes) n.station }) (same_moment now later e)
+same_after now later Time n e = ap (λ m. record n { station = after_input m (tick m n.station) }) (same_moment now later e)
+same_after now later (Act act) n e = ap (λ m. record n { station = (settled_act m act n.station).node }) (same_moment now later e)
+
+pub stepped : (c : Course) (w : World) (at : ℕ) (input : Input) (before n : Kept) → at < length c.left.nodes → Stands c w → before ≡ get_or c.left.nodes at before
+    → ((s : NodeState) → NodeStands before s → NodeStands n (after c.now input s)) → Stands (with_nodes c (set c.left.nodes at n)) (change at (after w.now input) w)
+stepped c w at input before n h t here goes =
+    changed c w at before n (after w.now input) h t here
+    (λ s stands. subst (λ (m : NodeState). NodeStands n m) (same_after c.now w.now input s t.now) (goes s stands))
+
+pub reached : (old new : Course) (line at : ℕ) (input : Input) (before n : Kept) → at < length old.left.nodes → before ≡ get_or old.left.nodes at before
+    → ((s : NodeState) → NodeStands before s → NodeStands n (after old.now input s))
+    → GoesOn (with_nodes old (set old.left.nodes at n)) new (all_entries line at) → GoesOn old new (reach line at input)
+reached old new line at input before n h here goes told w t =
+    subst (λ v. Stands new v) (reach_is line at input w) (told (change at (after w.now input) w) (stepped old w at input before n h t here goes))
+
+-- ---- there is no such node
+
+not_reached : (line at : ℕ) (input : Input) (w : World) → slice_get w.nodes at ≡ None → reach line at input w ≡ w
+unfolding reach
+not_reached line at input w e = ap (λ o. reaches line at input o w) e
+
+pub stays : (c : Course) (line at : ℕ) (input : Input) → length c.left.nodes ≤ at → GoesOn c c (reach line at input)
+stays c line at input h w t = subst (λ v. Stands c v) (sym (not_reached line at input w (past_place c.left.nodes w.nodes at h t.trace.nodes))) t
+
+-- ---- what it answers
+
+pub no_answer : (c : Course) (at : ℕ) (act : UserAct) (w : World) → length c.left.nodes ≤ at → Stands c w → answer at act w ≡ answers act w.now None
+unfolding answer
+no_answer c at act w h t = ap (answers act w.now) (past_place c.left.nodes w.nodes at h t.trace.nodes)
+
+pub answered : (c : Course) (at : ℕ) (act : UserAct) (w : World) (before : Kept) (r : Result ActDone ActRefusal) → at < length c.left.nodes → Stands c w
+    → before ≡ get_or c.left.nodes at before → ((s : NodeState) → NodeStands before s → r ≡ act_answer c.now act s) → answer at act w ≡ r
+unfolding answer
+answered c at act w before r h t here says =
+    let place = at_place c.left.nodes w.nodes at before h t.trace.nodes in
+    let p : Placed = place.placed in
+    let said : r ≡ act_answer c.now act p.state = says p.state (subst (λ k. NodeStands k p.state) (sym here) place.stands) in
+    let same : act_answer c.now act p.state ≡ act_answer w.now act p.state = ap (λ m. (settled_act m act p.state.station).answer) (same_moment c.now w.now t.now) in
+    ap (answers act w.now) place.is_in ∙ sym (said ∙ same)

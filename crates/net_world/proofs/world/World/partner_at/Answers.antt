@@ -1,0 +1,17 @@
+use Rattle.std.proofs.Common.{◌≡◌, ◌<◌, ◌≤◌, refl, arith, length}
+use Rattle.std.specs.Prelude.{None}
+use Rattle.circuit_table.specs.CircuitSets.{partner_at}
+use Rattle.circuit_table.specs.Sets.{end_of}
+use Rattle.net_world.specs.Running.{course}
+use Rattle.net_world.proofs.Looking.{looks, looks_none}
+use Rattle.net_world.proofs.world.World.partner_at.Goals as goal
+
+pub returns-then-at-len : goal.returns-then-at-len
+returns-then-at-len c = λ w t.
+    let h : c.args.at < length c.args.self.now.nodes.items = omega (arith, c.if-at-len.true, c.len.ensures) in
+    looks (course c.args.self.now) w c.args.at c.index.result.now c.circuits.result.now (λ hs. c.partner.result ≡ partner_at (end_of c.args.id hs)) h t c.index.ensures c.circuits.ensures.stands c.partner.ensures
+
+pub returns-else-at-len : goal.returns-else-at-len
+returns-else-at-len c = λ w t.
+    let h : length c.args.self.now.nodes.items ≤ c.args.at = omega (arith, c.if-at-len.false, c.len.ensures) in
+    looks_none (course c.args.self.now) w c.args.at (λ hs. None ≡ partner_at (end_of c.args.id hs)) h t refl

@@ -1,0 +1,136 @@
+//! What an agent asks of the ends that its node holds.
+ghost use Rattle.std.specs.Prelude.{◌≡◌, ℕ, IfOk, slice_get};
+ghost use Rattle.std.specs.Option.{option_copied};
+ghost use Rattle.circuit_l4.specs.State as ends;
+ghost use Rattle.circuit_table.specs.CircuitSets as sets;
+ghost use Rattle.circuit_table.specs.CircuitSets.{LentStands};
+ghost use Rattle.circuit_table.specs.Sets.{end_of};
+ghost use Rattle.circuit_table.specs.Standing.{take_answer};
+ghost use Rattle.net_world.specs.Agents as agents;
+ghost use Rattle.net_model.specs.Mailing as mailing;
+ghost use Rattle.net_model.specs.Mailing.{ends_here};
+ghost use Rattle.net_world.specs.Running.{Stands, course};
+ghost use Rattle.net_model.specs.World as worlds;
+
+use crate::world::World;
+use ax_address::Call;
+use circuit_l4::{End, EndPhase};
+use radio_base::NoMemory;
+
+/// A node holds 64 ends at most.
+const MAX_ENDS: usize = 64;
+
+impl World<'_> {
+    /// The ends that the node at a place holds, by number. They are named first, since taking its last message takes an ended end
+    /// away.
+    pub fn held_ids(&self, at: usize) -> Result<Vec<u64>, NoMemory>
+        ensures { IfOk result (λ ids. (w : worlds.World) → Stands (course self.now) w
+            → ids.items ≡ sets.held_ids (ends_here at w)) }
+    {
+        let mut ids = Vec::new(self.alloc);
+        for nth in 0..MAX_ENDS + 1 {
+            match self.held_id(at, nth) {
+                Some(id) => ids.push(id)?,
+                None => return Ok(ids),
+            }
+        }
+        Err(NoMemory)
+    }
+
+    fn held_id(&self, at: usize, nth: usize) -> Option<u64>
+        ensures { (w : worlds.World) → Stands (course self.now) w
+            → result ≡ slice_get (sets.held_ids (ends_here at w)) nth }
+    {
+        if at < self.nodes.len() {
+            self.nodes[at].circuits().held(nth)
+        } else {
+            None
+        }
+    }
+
+    /// The end of that number at the node at a place.
+    pub fn end_at(&self, at: usize, id: u64) -> Option<&End>
+        ensures { (w : worlds.World) → Stands (course self.now) w
+            → LentStands (option_copied result) (end_of id (ends_here at w)) }
+    {
+        if at < self.nodes.len() {
+            self.nodes[at].circuits().end(id)
+        } else {
+            None
+        }
+    }
+
+    /// The node of the partner of that end.
+    pub fn partner_at(&self, at: usize, id: u64) -> Option<Call>
+        ensures { (w : worlds.World) → Stands (course self.now) w
+            → result ≡ sets.partner_at (end_of id (ends_here at w)) }
+    {
+        if at < self.nodes.len() {
+            self.nodes[at].circuits().partner(id)
+        } else {
+            None
+        }
+    }
+
+    /// Whether a message waits at an end.
+    pub fn has_message(&self, at: usize, id: u64) -> bool
+        ensures { (w : worlds.World) → Stands (course self.now) w
+            → result ≡ mailing.waits (take_answer (end_of id (ends_here at w))) }
+    {
+        match self.end_at(at, id) {
+            Some(end) => end.has_message(),
+            None => false,
+        }
+    }
+
+    /// Whether an end takes a message.
+    pub fn may_write(&self, at: usize, id: u64, message: &[u8]) -> bool
+        ensures { (w : worlds.World) → Stands (course self.now) w → result ≡ mailing.may_write at id message.now w }
+    {
+        match self.end_at(at, id) {
+            Some(end) => end.may_write(message).is_ok(),
+            None => false,
+        }
+    }
+
+    /// The node of the partner of an end, where the node asked for the circuit and it is up.
+    pub fn dest_of(&self, at: usize, id: u64) -> Option<Call>
+        ensures { (w : worlds.World) → Stands (course self.now) w
+            → result ≡ mailing.dest_of (end_of id (ends_here at w)) }
+    {
+        if !self.is_requested(at, id) {
+            return None;
+        }
+        if !self.is_up(at, id) {
+            return None;
+        }
+        self.partner_at(at, id)
+    }
+
+    fn is_requested(&self, at: usize, id: u64) -> bool
+        ensures { (w : worlds.World) → Stands (course self.now) w
+            → result ≡ agents.is_requested (end_of id (ends_here at w)) }
+    {
+        if at < self.nodes.len() {
+            self.nodes[at].circuits().requested(id).unwrap_or(false)
+        } else {
+            false
+        }
+    }
+
+    fn is_up(&self, at: usize, id: u64) -> bool
+        ensures { (w : worlds.World) → Stands (course self.now) w
+            → result ≡ agents.is_up_end (end_of id (ends_here at w)) }
+    {
+        match self.end_at(at, id) {
+            Some(end) => is_up(end.facts().phase),
+            None => false,
+        }
+    }
+}
+
+fn is_up(phase: EndPhase) -> bool
+    ensures { result ≡ ends.is_up phase }
+{
+    matches!(phase, EndPhase::Up)
+}

@@ -1,0 +1,329 @@
+//! The three moves of which every line is made: something reaches a node, events are told, a node's frames are put in the air.
+ghost use Rattle.std.specs.Prelude.{◌≡◌, ◌∷◌, [], ℕ, List, true, false, is_some, IfOk, IfSome, OnOk, length, slice_get, ◌<◌};
+ghost use Rattle.std.specs.List.{position_or_len};
+ghost use Rattle.std.specs.Option.{option_map};
+ghost use Rattle.node_core.specs.Standing.{entry_of};
+ghost use Rattle.node_core.specs.Acts.{act_of};
+ghost use Rattle.node_core.specs.Broadcasts.{broadcast_octets};
+ghost use Rattle.nodes_broadcast.specs.Nodes.{view};
+ghost use Rattle.net_model.specs.declared.air.Aired.{Aired};
+ghost use Rattle.net_model.specs.Events.{event_of};
+ghost use Rattle.net_model.specs.Lines.{kiss_bytes};
+ghost use Rattle.net_world.specs.Running as running;
+ghost use Rattle.net_world.specs.Running.{GoesOn, Runs, Stands, course};
+ghost use Rattle.net_model.specs.Answers.{IsAnswerTo};
+ghost use Rattle.net_model.specs.Starting.{has_number};
+ghost use Rattle.net_model.specs.World as worlds;
+
+use crate::world::World;
+use ax_address::Call;
+use link_table::Written;
+use net_model::{
+    Answer, Event, NumberedEvent, ReplayRefusal, answer_of, datagram_event, entry_event, place_of,
+};
+use network_file::is_on_air;
+use node_core::{NodeEntry, UserAct, broadcast_frame};
+use nodes_broadcast::Nodes;
+use radio_base::{LinkModulus, NoMemory};
+
+impl World<'_> {
+    /// The place of the node of that number, or how many nodes there are.
+    pub fn place_of(&self, number: u8) -> usize
+        ensures { result ≡ position_or_len (has_number number) self.now.declared.items }
+    {
+        place_of(&self.declared, number)
+    }
+
+    /// The frame at a place in the air reaches the node at a place, and its entries are told. Its frames stay with it.
+    pub fn frame_reaches(&mut self, line: u32, frame_at: usize, at: usize) -> Result<(), NoMemory>
+        ensures { (f : Aired) → slice_get self.old.air frame_at ≡ Some f
+            → OnOk result (GoesOn (course self.old) (course self.new)
+            (worlds.reach line at (worlds.Bytes (kiss_bytes f.octets.items)))) }
+    {
+        match self.air.frames().get(frame_at) {
+            Some(frame) => {
+                if at < self.nodes.len() {
+                    self.nodes[at].kiss_frame(frame.octets.as_slice(), self.time)?;
+                    self.tell_entries(line, at)?;
+                    Ok(())
+                } else {
+                    Ok(())
+                }
+            }
+            None => Ok(()),
+        }
+    }
+
+    /// A broadcast reaches the node at a place, and its entries are told. Its frames stay with it. It stands by itself, so that only a
+    /// line that is one makes room for its frame.
+    #[inline(never)]
+    pub fn broadcast_reaches(
+        &mut self,
+        line: u32,
+        at: usize,
+        call: &Call,
+        nodes: &Nodes,
+    ) -> Result<(), NoMemory>
+        ensures { OnOk result (GoesOn (course self.old) (course self.new)
+            (worlds.reach line at (worlds.Bytes (kiss_bytes (broadcast_octets call.now (view nodes.now)))))) }
+    {
+        if at < self.nodes.len() {
+            let octets = broadcast_frame(call, nodes);
+            self.nodes[at].kiss_frame(octets.as_slice(), self.time)?;
+            self.tell_entries(line, at)?;
+            Ok(())
+        } else {
+            Ok(())
+        }
+    }
+
+    /// The time reaches the node at a place, and its entries are told. Its frames stay with it.
+    pub fn time_reaches(&mut self, line: u32, at: usize) -> Result<(), NoMemory>
+        ensures { OnOk result (GoesOn (course self.old) (course self.new) (worlds.reach line at worlds.Time)) }
+    {
+        if at < self.nodes.len() {
+            self.nodes[at].tick(self.time)?;
+            self.tell_entries(line, at)?;
+            Ok(())
+        } else {
+            Ok(())
+        }
+    }
+
+    /// A user's act reaches the node at a place, and its entries are told: what was done, or why it wasn't. Its frames stay
+    /// with it.
+    pub fn act_reaches(&mut self, line: u32, at: usize, act: &UserAct) -> Result<Answer, NoMemory>
+        ensures goes { OnOk result (GoesOn (course self.old) (course self.new)
+            (worlds.reach line at (worlds.Act (act_of act.now)))) }
+        ensures answer { IfOk result (λ answer. (w : worlds.World) → Stands (course self.old) w
+            → IsAnswerTo answer (worlds.answer at (act_of act.now) w)) }
+    {
+        if at < self.nodes.len() {
+            let answer = self.act_at(at, act)?;
+            self.tell_entries(line, at)?;
+            Ok(answer)
+        } else {
+            Ok(Answer::Done)
+        }
+    }
+
+    /// A user's act reaches the node at a place.
+    fn act_at(&mut self, at: usize, act: &UserAct) -> Result<Answer, NoMemory>
+        requires { at < length self.old.nodes.items }
+        ensures goes { OnOk result ((w : worlds.World) → Stands (course self.old) w
+            → Stands (course self.new) (running.change at (worlds.after w.now (worlds.Act (act_of act.now))) w)) }
+        ensures answer { IfOk result (λ answer. (w : worlds.World) → Stands (course self.old) w
+            → IsAnswerTo answer (worlds.answer at (act_of act.now) w)) }
+    {
+        let outcome = self.nodes[at].act(act, self.time);
+        let answer = answer_of(outcome)?;
+        Ok(answer)
+    }
+
+    /// Tells what the node at a place has to tell.
+    fn tell_entries(&mut self, line: u32, at: usize) -> Result<(), NoMemory>
+        ensures { OnOk result (GoesOn (course self.old) (course self.new) (running.all_entries line at)) }
+    {
+        // So it mostly is, and then no room is made for what could be told.
+        if !self.has_entries(at) {
+            return Ok(());
+        }
+        self.tell_all_entries(line, at)?;
+        Ok(())
+    }
+
+    /// Whether the node at a place has something to tell.
+    fn has_entries(&self, at: usize) -> bool
+        ensures { (w : worlds.World) → Stands (course self.now) w
+            → result ≡ is_some (running.first_entry (slice_get w.nodes at)) }
+    {
+        if at < self.nodes.len() {
+            self.nodes[at].has_entries()
+        } else {
+            false
+        }
+    }
+
+    #[inline(never)]
+    fn tell_all_entries(&mut self, line: u32, at: usize) -> Result<(), NoMemory>
+        ensures { OnOk result (GoesOn (course self.old) (course self.new) (running.all_entries line at)) }
+    {
+        loop {
+            match self.first_event(at)? {
+                Some(event) => {
+                    // (the entry was lent, and is taken now)
+                    if self.next_entry(at).is_none() {
+                        return Ok(());
+                    }
+                    self.tell(line, event)?;
+                }
+                None => {
+                    if !self.tell_one(line, at)? {
+                        return Ok(());
+                    }
+                }
+            }
+        }
+    }
+
+    /// The first thing that the node at a place has to tell, as an event, where it is a datagram that an end has sent or taken in.
+    fn first_event(&self, at: usize) -> Result<Option<Event>, NoMemory>
+        ensures { IfOk result (λ event. (w : worlds.World) → Stands (course self.now) w
+            → running.IsFirst (option_map event_of event) (slice_get w.nodes at)) }
+    {
+        if at >= self.nodes.len() || at >= self.declared.len() {
+            return Ok(None);
+        }
+        let node = self.declared[at].node;
+        match self.nodes[at].first_entry() {
+            Some(entry) => datagram_event(self.alloc, node, entry),
+            None => Ok(None),
+        }
+    }
+
+    /// Tells the first thing that the node at a place has to tell. Whether there was one. Few entries are no datagrams, so no other
+    /// call makes room for what this one needs.
+    #[inline(never)]
+    fn tell_one(&mut self, line: u32, at: usize) -> Result<bool, NoMemory>
+        ensures told { IfOk result (λ told. told ≡ true → (w : worlds.World) → Stands (course self.old) w
+            → (v : worlds.World) × Stands (course self.new) v
+            × (running.all_entries line at v ≡ running.all_entries line at w)) }
+        ensures none { IfOk result (λ told. told ≡ false
+            → GoesOn (course self.old) (course self.new) (running.all_entries line at)) }
+        ensures left { IfOk result (λ told. told ≡ true
+            → running.entries_at at self.new.nodes.items < running.entries_at at self.old.nodes.items) }
+    {
+        match self.next_entry(at) {
+            Some(entry) => {
+                self.tell_entry(line, at, entry)?;
+                Ok(true)
+            }
+            None => Ok(false),
+        }
+    }
+
+    /// Fetches the first thing that the node at a place has to tell.
+    fn next_entry(&mut self, at: usize) -> Option<NodeEntry>
+        ensures answer { (w : worlds.World) → Stands (course self.old) w
+            → option_map entry_of result ≡ running.first_entry (slice_get w.nodes at) }
+        ensures goes { GoesOn (course self.old) (course self.new) (running.change at running.fetched_entry) }
+        ensures left { IfSome result (λ _. running.entries_at at self.new.nodes.items
+            < running.entries_at at self.old.nodes.items) }
+    {
+        if at < self.nodes.len() {
+            self.nodes[at].trace_entry()
+        } else {
+            None
+        }
+    }
+
+    /// Tells an entry of the node at a place.
+    fn tell_entry(&mut self, line: u32, at: usize, entry: NodeEntry) -> Result<(), NoMemory>
+        ensures goes { OnOk result ((w : worlds.World) → Stands (course self.old) w
+            → Stands (course self.new) (worlds.tell line
+            (running.entry_events (entry_of entry) (slice_get w.nodes at)) w)) }
+        ensures nodes { self.new.nodes.items ≡ self.old.nodes.items }
+    {
+        match self.declared.get(at) {
+            Some(declared) => {
+                let event = entry_event(self.alloc, declared.node, entry)?;
+                self.tell(line, event)?;
+                Ok(())
+            }
+            None => Ok(()),
+        }
+    }
+
+    /// Tells an event. There are three for a frame, so that callers take this in, and `put_in_air` too.
+    #[inline(always)]
+    pub fn tell(&mut self, line: u32, event: Event) -> Result<(), NoMemory>
+        ensures goes { OnOk result (GoesOn (course self.old) (course self.new)
+            (worlds.tell line (event_of event ∷ []))) }
+        ensures nodes { self.new.nodes.items ≡ self.old.nodes.items }
+        ensures air { self.new.air ≡ self.old.air }
+    {
+        self.ends.note(&event)?;
+        self.events.push(NumberedEvent { line, event })?;
+        Ok(())
+    }
+
+    /// Puts all frames of the node at a place in the air, where it is on a channel. A frame that is repeated was written as the
+    /// frame that came.
+    #[inline(always)]
+    pub fn put_in_air(&mut self, line: u32, at: usize, came128: bool) -> Result<(), ReplayRefusal>
+        ensures { Runs (course self.old) (course self.new) (worlds.put line at came128) result }
+    {
+        if at < self.declared.len() {
+            let node = self.declared[at].node;
+            let on_air = is_on_air(self.channels, node);
+            self.put_frames(line, at, node, on_air, came128)
+        } else {
+            Ok(())
+        }
+    }
+
+    fn put_frames(
+        &mut self,
+        line: u32,
+        at: usize,
+        node: u8,
+        on_air: bool,
+        came128: bool,
+    ) -> Result<(), ReplayRefusal>
+        ensures { Runs (course self.old) (course self.new) (running.put_by line at node on_air came128) result }
+    {
+        while let Some(written) = self.next_frame(at) {
+            self.put_frame(line, node, on_air, came128, written)?;
+        }
+        Ok(())
+    }
+
+    /// Fetches the first frame that waits at the node at a place.
+    fn next_frame(&mut self, at: usize) -> Option<Written>
+        ensures answer { (w : worlds.World) → Stands (course self.old) w
+            → result ≡ running.first_frame (slice_get w.nodes at) }
+        ensures goes { GoesOn (course self.old) (course self.new) (running.change at running.fetched_frame) }
+        ensures left { IfSome result (λ _. running.frames_at at self.new.nodes.items
+            < running.frames_at at self.old.nodes.items) }
+    {
+        if at < self.nodes.len() {
+            self.nodes[at].next_frame()
+        } else {
+            None
+        }
+    }
+
+    /// Puts a frame of a node in the air, where the node is on a channel.
+    fn put_frame(
+        &mut self,
+        line: u32,
+        node: u8,
+        on_air: bool,
+        came128: bool,
+        written: Written,
+    ) -> Result<(), ReplayRefusal>
+        ensures runs { Runs (course self.old) (course self.new)
+            (running.airs line (running.aired_one on_air node came128 written)) result }
+        ensures nodes { self.new.nodes.items ≡ self.old.nodes.items }
+    {
+        if on_air {
+            let modulo128 = is_modulo128(came128, written.modulus);
+            self.air.put(node, written.octets, modulo128)?;
+            let frame = self.air.frames().len() as u32;
+            self.tell(line, Event::InAir { frame })?;
+            Ok(())
+        } else {
+            Ok(())
+        }
+    }
+}
+
+/// Whether a frame was written modulo 128; a repeated one as the frame that came.
+fn is_modulo128(came128: bool, modulus: Option<LinkModulus>) -> bool
+    ensures { result ≡ worlds.is_modulo128 came128 modulus }
+{
+    match modulus {
+        Some(modulus) => modulus.is_128(),
+        None => came128,
+    }
+}

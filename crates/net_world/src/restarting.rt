@@ -1,0 +1,106 @@
+//! Restarts of nodes.
+ghost use Rattle.std.specs.Prelude.{◌≡◌, ◌≤◌, ◌<◌, ℕ, OnOk, length, slice_get, slice_index_or};
+ghost use Rattle.circuit_table.specs.Pairs.{IsPair};
+ghost use Rattle.net_model.specs.Lines as lines;
+ghost use Rattle.net_world.specs.Running as running;
+ghost use Rattle.net_world.specs.Running.{GoesOn, Stands, course};
+ghost use Rattle.net_model.specs.World as worlds;
+
+use crate::world::World;
+use circuit_l4::{EndFacts, Pair};
+use net_model::{Event, LostEnd, started};
+use network_file::{Declaration, Network};
+use radio_base::{COUNT_MAX, NoMemory};
+
+impl World<'_> {
+    /// The node of that number starts again, at a pair: its ends are lost.
+    pub fn restart(
+        &mut self,
+        network: &Network,
+        line: u32,
+        number: u8,
+        pair: Pair,
+    ) -> Result<(), NoMemory>
+        requires { IsPair pair }
+        ensures { OnOk result (GoesOn (course self.old) (course self.new)
+            (lines.restart network.now line number pair)) }
+    {
+        let at = self.place_of(number);
+        if at < self.nodes.len() {
+            if at < self.declared.len() {
+                let declared = self.declared[at];
+                self.restart_at(network, line, at, &declared, pair)
+            } else {
+                Ok(())
+            }
+        } else {
+            Ok(())
+        }
+    }
+
+    fn restart_at(
+        &mut self,
+        network: &Network,
+        line: u32,
+        at: usize,
+        declared: &Declaration,
+        pair: Pair,
+    ) -> Result<(), NoMemory>
+        requires pair { IsPair pair }
+        requires within { at < length self.old.nodes.items }
+        requires number { declared.now ≡ slice_index_or self.old.declared.items at declared.now }
+        ensures { OnOk result (GoesOn (course self.old) (course self.new)
+            (worlds.at_node at (lines.restarts network.now line at pair))) }
+    {
+        let node = declared.node;
+        let made = self.ends.of_node(node).len() as u64;
+        if made > COUNT_MAX {
+            return Err(NoMemory);
+        }
+        self.tell(line, Event::Restarted { node, pair })?;
+        self.tell_losses(line, at, node, made)?;
+        let anew = started(self.alloc, network, declared, pair, made + 1)?;
+        self.nodes[at] = anew;
+        Ok(())
+    }
+
+    /// Tells which of so many ends the node at a place holds: they are lost.
+    fn tell_losses(&mut self, line: u32, at: usize, node: u8, made: u64) -> Result<(), NoMemory>
+        requires { made ≤ 4611686018427387904 }
+        ensures goes { OnOk result (GoesOn (course self.old) (course self.new)
+            (λ w. worlds.tell line (running.losses_at node made (slice_get w.nodes at)) w)) }
+        ensures nodes { self.new.nodes.items ≡ self.old.nodes.items }
+    {
+        for id in 1..made + 1 {
+            self.tell_loss(line, at, node, id)?;
+        }
+        Ok(())
+    }
+
+    /// Tells that an end of the node at a place is lost, where it is held.
+    fn tell_loss(&mut self, line: u32, at: usize, node: u8, end: u64) -> Result<(), NoMemory>
+        ensures goes { OnOk result (GoesOn (course self.old) (course self.new)
+            (λ w. worlds.tell line (running.loss_at node end (slice_get w.nodes at)) w)) }
+        ensures nodes { self.new.nodes.items ≡ self.old.nodes.items }
+    {
+        match self.facts_at(at, end) {
+            Some(facts) => {
+                let end = Box::new(self.alloc, LostEnd { id: end, facts })?;
+                self.tell(line, Event::Lost { node, end })?;
+                Ok(())
+            }
+            None => Ok(()),
+        }
+    }
+
+    fn facts_at(&self, at: usize, end: u64) -> Option<EndFacts>
+        ensures { (w : worlds.World) → Stands (course self.now) w
+            → result ≡ running.facts_of end (slice_get w.nodes at) }
+    {
+        if at < self.nodes.len() {
+            self.nodes[at].facts(end)
+        } else {
+            None
+        }
+    }
+}

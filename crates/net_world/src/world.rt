@@ -1,0 +1,53 @@
+//! A replay while it runs, and its start.
+ghost use Rattle.std.specs.Prelude.{◌≡◌, IfOk};
+ghost use Rattle.circuit_table.specs.Runs.{AreStarts};
+ghost use Rattle.net_model.specs.SoundPlans.{first_sets};
+ghost use Rattle.net_world.specs.Running.{Stands, course};
+ghost use Rattle.net_model.specs.World as worlds;
+
+use circuit_verdict::Allowance;
+use net_model::{Air, Ends, NumberedEvent, allowance_of, declared_by_number, new_mails, nodes_of};
+use network_file::{Channel, Declaration, Network};
+use node_core::Node;
+use node_mail::Store;
+use radio_base::{Moment, NoMemory};
+use std::alloc::Global;
+
+/// A replay while it runs: the channels, the allowance, the nodes by number and their mail, the time, the frames in the air, and the events so far.
+#[derive(Drop)]
+pub struct World<'a> {
+    pub alloc: Global,
+    pub channels: &'a [Channel],
+    /// How many overtakers are too many.
+    pub allowance: Allowance,
+    pub declared: Vec<Declaration>,
+    pub nodes: Vec<Node>,
+    /// The mail of each node, by place; none where a node keeps no mail.
+    pub mails: Vec<Option<Store>>,
+    pub time: Moment,
+    pub air: Air,
+    pub ends: Ends,
+    pub events: Vec<NumberedEvent>,
+}
+
+/// The nodes as they start, at time 0.
+pub fn start(alloc: Global, network: &Network) -> Result<World<'_>, NoMemory>
+    ensures stands { IfOk result (λ world. Stands (course world) (worlds.start network.now)) }
+    ensures starts { IfOk result (λ _. AreStarts (first_sets network.now)) }
+{
+    let declared = declared_by_number(alloc, network)?;
+    let nodes = nodes_of(alloc, network, &declared)?;
+    let mails = new_mails(alloc, network, &declared)?;
+    Ok(World {
+        alloc,
+        channels: network.channels(),
+        allowance: allowance_of(network.version()),
+        declared,
+        nodes,
+        mails,
+        time: Moment(0),
+        air: Air::new(alloc),
+        ends: Ends::new(alloc)?,
+        events: Vec::new(alloc),
+    })
+}
