@@ -1,12 +1,16 @@
 """Stand-ins for all that is around wursthatch-hub: the station, TNCs, users, and a folder in which a hub runs. Called by .ci/hub.
 
 The stand-in station writes its words into the file `started` of its folder and each frame that it reads, in hexadecimal, into `heard`. It
-answers at consoles, and a frame with REPEAT n in it comes back n times; after one with STALL it takes nothing for three seconds. It
-tells what the file `tells` holds, and ends with the status that `end` does.
+answers at consoles, and a frame with REPEAT n in it comes back n times; after one with STALL it takes nothing until there is a file `go`.
+It tells what the file `tells` holds, and ends with the status that `end` does.
+
+The rows run at once, on a machine that may be slow and busy: whatever comes is waited for, and no row counts on two things coming in an
+order that nobody promises, or on a thing coming soon. The limits only end a row that waits in vain.
 """
 
 import json
 import os
+import select
 import signal
 import socket
 import subprocess
@@ -16,6 +20,7 @@ import time
 
 TOP = os.path.dirname(os.path.dirname(os.path.realpath(__file__)))
 FEND = b"\xC0"
+LIMIT = 300                             # seconds
 OPEN = threading.local()                # the lines that this row, which has a thread of its own, has opened
 STATION = r"""#!/usr/bin/env python3
 import os, re, shlex, sys, time
@@ -57,8 +62,8 @@ def take(piece):
     if found := re.search(rb"REPEAT (\d+)", piece):
         for count in range(int(found[1])):
             put(piece[0], piece[1:] + b" %d" % count)
-    if b"STALL" in piece:
-        time.sleep(3)
+    while b"STALL" in piece and not holds("go"):
+        time.sleep(.05)
     if b"LEAVE" in piece:
         sys.exit(int(holds("end")))
 
@@ -77,6 +82,7 @@ while got := sys.stdin.buffer.raw.read(4096):
         else:
             take(piece)
 """
+LIMITED = "import sys; sys.path[0] = {!r}; from hub import main; vars(main).update({}); sys.exit(main.main(sys.argv[1:]))"
 PORT = '[[port]]\nname = "{}"\ntnc = "{}"\n'
 
 
@@ -101,17 +107,30 @@ def close_all():
         line.close()
 
 
-def until(holds, seconds=20, what="nothing came"):
-    """Waits until it holds, and answers what it gave."""
-    end = time.monotonic() + seconds
+def until(holds, what="nothing came"):
+    """Waits until it holds, and answers what it gave. `what` says it, or tells what there is in its place."""
+    end = time.monotonic() + LIMIT
     while not (got := holds()):
-        assert time.monotonic() < end, what
-        time.sleep(.02)
+        assert time.monotonic() < end, what() if callable(what) else what
+        time.sleep(.05)
     return got
 
 
+def come_at(line, got):
+    """What has come at a line, behind what was got before, and whether it has ended."""
+    while select.select([line], [], [], 0)[0]:
+        try:
+            more = line.recv(65536)
+        except ConnectionResetError:
+            more = b""
+        if not more:
+            return got, True
+        got += more
+    return got, False
+
+
 def free_port(kind=socket.SOCK_STREAM):
-    """The number of a port for a hub to listen at. One of TCP is kept from all others: who listens there may, and nobody else gets it."""
+    """The number of a port to listen at. One of TCP is kept from all others: who listens there may, and nobody else gets it."""
     line = socket.socket(socket.AF_INET, kind)
     line.setsockopt(socket.SOL_SOCKET, socket.SO_REUSEADDR, 1)
     line.bind(("127.0.0.1", 0))
@@ -126,20 +145,24 @@ def free_port(kind=socket.SOCK_STREAM):
 class Tnc:
     """A stand-in for a TNC on TCP."""
 
-    def __init__(self, number=0):
-        self.server = opened(socket.create_server(("127.0.0.1", number)))
-        self.number = self.server.getsockname()[1]
+    def __init__(self, number=None, room=None):
+        self.number = number or free_port()
+        self.server = opened(socket.create_server(("127.0.0.1", self.number)))
+        if room:                        # (bytes; who comes later has no more than that)
+            self.server.setsockopt(socket.SOL_SOCKET, socket.SO_RCVBUF, room)
         self.line, self.got = None, b""
 
     def come(self):
-        self.server.settimeout(20)
+        """Until the hub is there, and has sent its first FEND."""
+        self.server.settimeout(LIMIT)
         self.line, self.got = opened(self.server.accept()[0]), b""
-        self.line.settimeout(.1)
+        self.line.settimeout(LIMIT)
+        until(lambda: self.frames() or self.got)
         return self
 
     def leave(self):
-        self.line.close()
         self.server.close()
+        self.line.close()
 
     def send(self, *frames):
         for frame in frames:
@@ -147,11 +170,7 @@ class Tnc:
 
     def frames(self):
         """What has come, without its FENDs."""
-        try:
-            while got := self.line.recv(65536):
-                self.got += got
-        except TimeoutError:
-            pass
+        self.got, _ = come_at(self.line, self.got)
         return [piece for piece in self.got.split(FEND)[:-1] if piece]
 
 
@@ -160,25 +179,21 @@ class User:
 
     def __init__(self, number, *lines):
         self.line, self.got = opened(socket.create_connection(("127.0.0.1", number))), b""
-        self.line.settimeout(.1)
+        self.line.settimeout(LIMIT)
         for line in lines:
             self.type(line)
 
     def type(self, text):
         self.line.sendall(text if isinstance(text, bytes) else text.encode() + b"\r\n")
 
-    def sees(self, text):
-        """Waits for that text; nothing is the end."""
+    def sees(self, *texts):
+        """Waits for one of these, and answers which; nothing is the end."""
         def came():
-            try:
-                got = self.line.recv(65536)
-            except TimeoutError:
-                return text and text in self.got
-            except ConnectionResetError:
-                got = b""
-            self.got += got
-            return text in self.got if text else not got
-        until(came, what=f"no {text} in {self.got[-200:]}")
+            self.got, has_ended = come_at(self.line, self.got)
+            found = [text for text in texts if (text in self.got if text else has_ended)]
+            assert found or not has_ended, f"no {texts} to the end of {self.got[-200:]}"
+            return found
+        return until(came, lambda: f"no {texts} in {self.got[-200:]}")[0]
 
 
 class Room:
@@ -201,14 +216,15 @@ class Room:
         except FileNotFoundError:
             return ""
 
-    def start(self, text="", hub=""):
-        """A hub with this file, whose node is N0AAA-1, alias ANODE."""
+    def start(self, text="", hub="", **limits):
+        """A hub with this file, whose node is N0AAA-1, alias ANODE, and with these constants of hub/main.py."""
         node = '[[node]]\ncall = "N0AAA-1"\nalias = "ANODE"\nports = []\n'
         keys = f'[hub]\ntelnet = "127.0.0.1:{self.telnet}"\nweb = "127.0.0.1:{self.web}"\n'
         self.keep("station.toml", 'name = "Here"\ndeny = ["N0BAD"]\n' + text + node + keys + hub)
         with open(os.path.join(self.path, "notes"), "a", encoding="utf-8") as notes:
-            self.hub = subprocess.Popen([sys.executable, "-W", "error", os.path.join(TOP, "wursthatch-hub"), "station.toml"], env=self.env,
-                                        cwd=self.path, stdin=subprocess.DEVNULL, stdout=subprocess.PIPE, stderr=notes)
+            program = ["-B", "-c", LIMITED.format(TOP, limits)] if limits else [os.path.join(TOP, "wursthatch-hub")]
+            self.hub = subprocess.Popen([sys.executable, "-W", "error", *program, "station.toml"], env=self.env, cwd=self.path,
+                                        stdin=subprocess.DEVNULL, stdout=subprocess.PIPE, stderr=notes)
         return self
 
     def runs(self, *arguments, **settings):
@@ -223,23 +239,43 @@ class Room:
         return [bytes.fromhex(line) for line in self.holds("heard").split("\n")[:-1] if not line.startswith("console")]
 
     def hears(self, *frames):
-        until(lambda: set(frames) <= set(self.heard()), what=f"not heard: {[frame for frame in frames if frame not in self.heard()][:3]}")
+        """Waits until the station has been handed all of these."""
+        until(lambda: set(frames) <= set(self.heard()), lambda: f"not heard: {list(set(frames).difference(self.heard()))[:3]}")
 
     def console(self, text):
-        until(lambda: text in self.holds("heard"), what=f"no {text} in {self.holds('heard')[-300:]}")
+        until(lambda: text in self.holds("heard"), lambda: f"no {text} in {self.holds('heard')[-300:]}")
+
+    def noted(self, text):
+        """Waits for a note of the hub's."""
+        until(lambda: text in self.holds("notes"), lambda: f"no {text} in {self.holds('notes')[-300:]}")
 
     def get(self, path, method="GET"):
-        with socket.create_connection(("127.0.0.1", self.web)) as line:
-            line.sendall(f"{method} {path} HTTP/1.1\r\nHost: here\r\n\r\n".encode())
-            head, _, body = b"".join(iter(lambda: line.recv(65536), b"")).partition(b"\r\n\r\n")
+        """The head and the body of what is answered. (who needs ten seconds to ask gets nothing, so it is asked again)"""
+        def answer():
+            with socket.create_connection(("127.0.0.1", self.web), LIMIT) as line:
+                line.sendall(f"{method} {path} HTTP/1.1\r\nHost: here\r\n\r\n".encode())
+                return b"".join(iter(lambda: line.recv(65536), b""))
+        head, _, body = until(answer).partition(b"\r\n\r\n")
         return head.decode(), body.decode()
 
     def status(self):
         return json.loads(self.get("/status.json")[1])
 
+    def port(self, count=0):
+        """What /status.json shows of a port."""
+        return self.status()["ports"][count]
+
+    def has_counted(self, frames, why):
+        """Waits until that port 0 has taken or dropped so many frames: what it shows then."""
+        def shows():
+            port = self.port()
+            taken = port["sent"] if why == "the TNC is slow" else port["heard"]
+            return taken + port["dropped"].get(why, 0) == frames and port
+        return until(shows)
+
     def ends(self, by=signal.SIGTERM):
         """Its status."""
         if by:
             self.hub.send_signal(by)
-        self.lines = self.hub.communicate(timeout=30)[0].decode()
+        self.lines = self.hub.communicate(timeout=LIMIT)[0].decode()
         return self.hub.returncode
