@@ -21,7 +21,7 @@ class Station:
     """The program while it runs. `out` takes each frame that it writes, by KISS port; `line` each line that it tells."""
 
     def __init__(self, out, line):
-        self.out, self.line, self.child = out, line, None
+        self.out, self.line, self.child, self.is_running = out, line, None, asyncio.Event()
         self.waiting, self.places, self.since_taken = asyncio.Queue(), collections.Counter(), time.monotonic()
 
     def hear(self, source, port, octets):
@@ -41,6 +41,7 @@ class Station:
         pipe = asyncio.subprocess.PIPE
         self.child = await asyncio.create_subprocess_exec(*PROGRAM, *words, stdin=pipe, stdout=pipe, stderr=pipe, limit=LONGEST_LINE,
                                                           start_new_session=True)
+        self.is_running.set()
         async with asyncio.TaskGroup() as group:
             given = group.create_task(self.write(self.child.stdin))
             await asyncio.gather(self.read(self.child.stdout), self.read_lines(self.child.stderr))
@@ -79,7 +80,8 @@ class Station:
             self.line(line.decode(errors="replace").rstrip("\n"))
 
     async def end(self):
-        """Its input ends; it gets some seconds to end itself."""
+        """Its input ends, once it has begun; it gets some seconds to end itself."""
+        await self.is_running.wait()
         self.child.stdin.close()
         try:
             async with asyncio.timeout(5):
