@@ -17,7 +17,7 @@ from hub.ports import Axudp, Port, Stream
 from hub.web import Web, open_to
 
 FAILED, USAGE = 1, 2                    # statuses; else the station's own
-STOPPING, QUIET = 10, 2                 # seconds that users have to be let go, and without a frame after which no circuit is being closed
+STOPPING, QUIET = 10, 2                 # seconds that users and frames have to go, and without a frame till no circuit is being closed
 
 
 def say(text, stream=None):
@@ -102,7 +102,7 @@ class Hub:
             status = await self.child.run(["run", kept.path, pair])
             for console in self.consoles.held.values():
                 console.task.cancel()
-            await until(lambda: all(port.waiting.empty() for port in self.ports) and not self.consoles.held, 2)
+            await until(lambda: all(port.waiting.empty() for port in self.ports) and not self.consoles.held, STOPPING)
             for run in runs:
                 run.cancel()
         for server in servers:

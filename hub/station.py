@@ -13,6 +13,7 @@ CONSOLES = 15                           # the KISS port of consoles
 EVERYBODY = 255                         # the console of what is for the station itself
 MOST_TEXT = 1000                        # bytes of text in one console frame
 WAITING = 256                           # frames of one source that wait for the station, so a flood from one fills its own places alone
+ENDING = 60                             # seconds until one that doesn't end is killed
 LONGEST_LINE = 1 << 20                  # bytes; nothing of a station's is as long
 PROGRAM = shlex.split(os.environ.get("WURSTHATCH_STATION", "wursthatch-station"))
 
@@ -80,11 +81,11 @@ class Station:
             self.line(line.decode(errors="replace").rstrip("\n"))
 
     async def end(self):
-        """Its input ends, once it has begun; it gets some seconds to end itself."""
+        """Its input ends, once it has begun; it gets a minute to end itself."""
         await self.is_running.wait()
         self.child.stdin.close()
         try:
-            async with asyncio.timeout(5):
+            async with asyncio.timeout(ENDING):
                 await self.child.wait()
         except TimeoutError:
             self.child.kill()
