@@ -199,8 +199,8 @@ class User:
 class Room:
     """A folder with a stand-in station, and a hub in it."""
 
-    def __init__(self, path):
-        self.path, self.hub, self.telnet, self.web = path, None, free_port(), free_port()
+    def __init__(self, path, node="N0AAA-1", alias="ANODE"):
+        self.path, self.hub, self.telnet, self.web, self.node = path, None, free_port(), free_port(), (node, alias)
         self.env = {**os.environ, "WURSTHATCH_STATION": os.path.join(path, "station"), "STATE_DIRECTORY": path}
         self.keep("station", STATION)
         os.chmod(os.path.join(path, "station"), 0o755)
@@ -216,9 +216,9 @@ class Room:
         except FileNotFoundError:
             return ""
 
-    def start(self, text="", hub="", **limits):
-        """A hub with this file, whose node is N0AAA-1, alias ANODE, and with these constants of hub/main.py."""
-        node = '[[node]]\ncall = "N0AAA-1"\nalias = "ANODE"\nports = []\n'
+    def start(self, text="", hub="", on=(), own="", **limits):
+        """A hub with this file, whose node is on these ports and has these keys of its own, and with these constants of hub/main.py."""
+        node = '[[node]]\ncall = "{}"\nalias = "{}"\n'.format(*self.node) + f"ports = {json.dumps(on)}\n" + own
         keys = f'[hub]\ntelnet = "127.0.0.1:{self.telnet}"\nweb = "127.0.0.1:{self.web}"\n'
         self.keep("station.toml", 'name = "Here"\ndeny = ["N0BAD"]\n' + text + node + keys + hub)
         with open(os.path.join(self.path, "notes"), "a", encoding="utf-8") as notes:
@@ -272,6 +272,17 @@ class Room:
             taken = port["sent"] if why == "the TNC is slow" else port["heard"]
             return taken + port["dropped"].get(why, 0) == frames and port
         return until(shows)
+
+    def listens(self):
+        """Whether users may come."""
+        with socket.socket() as line:
+            return line.connect_ex(("127.0.0.1", self.telnet)) == 0
+
+    def stop(self):
+        """Where it hasn't ended, it is killed."""
+        if self.hub and self.hub.poll() is None:
+            self.hub.kill()
+            self.hub.communicate()
 
     def ends(self, by=signal.SIGTERM):
         """Its status."""
