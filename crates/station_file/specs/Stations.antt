@@ -1,5 +1,5 @@
 -- What the tables of a file say of a station. Each key is looked at in the order of this file, and the first fault is told. Own profile.
-use Rattle.std.specs.Prelude.{ℕ, ◌+◌, List, [], ◌∷◌, ◌++◌, length, map, Option, Some, None, Result, Ok, Err, Bool, true, false, not, ◌&&◌, ◌||◌, ◌==◌, nat_lt, nat_eq, is_none}
+use Rattle.std.specs.Prelude.{ℕ, ◌+◌, ◌-◌, List, [], ◌∷◌, ◌++◌, length, map, Option, Some, None, Result, Ok, Err, Bool, true, false, not, ◌&&◌, ◌||◌, ◌==◌, nat_lt, nat_le, nat_eq, is_none, is_some, if◌then◌else◌}
 use Rattle.std.specs.List.{list_any, list_all}
 use Rattle.std.specs.Char.{to_ascii_lowercase, is_ascii_alphanumeric}
 use Rattle.std.specs.Cmp.Lexicographic.{pointwise}
@@ -228,6 +228,25 @@ post_by members (Some d) = post_in members d >>= (λ p. Ok (Some p))
 abbrev pub post_at : List Member → Members → Result (Option Post) Fault
 post_at members ms = post_by members (value_at keys.Mail ms)
 
+-- how many members there are, with the post
+abbrev pub count_if : Bool → ℕ → ℕ
+count_if has_post members = if has_post then members + 1 else members
+
+-- ---- the qualities of neighbours: a member keeps 16, one of each other member among them
+
+abbrev pub few_qualities : ℕ → Member → Result (Unit {0}) Fault
+few_qualities most m =
+    placed (sections.Node m.declared.node) keys.Qualities
+    (needs (nat_le (length m.qualities.items) most) (TooMany (length m.qualities.items) most))
+
+abbrev pub all_few_qualities : ℕ → List Member → Result (Unit {0}) Fault
+all_few_qualities most [] = Ok tt
+all_few_qualities most (m ∷ ms) = few_qualities most m >>= (λ u. all_few_qualities most ms)
+
+-- so many are left of the 16 beside those of the other members
+abbrev pub qualities_left : ℕ → ℕ
+qualities_left members = 17 - members
+
 -- ---- beacons
 
 abbrev pub port_in : Option ℕ → Result ℕ Why
@@ -275,6 +294,16 @@ beacons_of ports members ms = do
   ds ← placed sections.Station keys.Beacon (list 64 (value_at keys.Beacon ms))
   beacons_from ports members 1 [] ds
 
+-- ---- what holds of each member and beacon of a file
+
+-- the pieces of a text that goes to a user over a link are small
+abbrev pub has_small_pieces : Member → Bool
+has_small_pieces m = nat_le m.paclen 256
+
+-- a beacon fits a frame
+abbrev pub has_short_text : Beacon → Bool
+has_short_text b = nat_le (length b.text) 256
+
 -- ---- the station
 
 abbrev pub hub_in : Option Data → Result (Unit {0}) Why
@@ -293,6 +322,7 @@ station_of ms = do
   ports ← ports_of ms
   members ← members_of ports ms
   post ← post_at members ms
+  w ← all_few_qualities (qualities_left (count_if (is_some post) (length members))) members
   beacons ← beacons_of ports members ms
   Ok (record {
     name = name;

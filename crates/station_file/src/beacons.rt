@@ -1,5 +1,6 @@
 //! The beacons of a file. The station reads them last, since they name ports and members.
-ghost use Rattle.std.specs.Prelude.{◌≡◌, ◌≤◌, ◌+◌, [], length, map, Ok, MatchResult};
+ghost use Rattle.std.specs.Prelude.{◌≡◌, ◌≤◌, ◌+◌, [], length, map, Ok, IfOk, IsTrue, MatchResult};
+ghost use Rattle.std.specs.List.{list_all};
 ghost use Rattle.toml.specs.View.{view, table_view};
 ghost use Rattle.station_file.specs.Stations as stations;
 ghost use Rattle.station_file.specs.Tables.{TellsOf};
@@ -41,9 +42,10 @@ pub fn read_beacons(
     members: &[Member],
 ) -> Result<Vec<Beacon>, Stop>
     requires { length ports.now ≤ 8 }
-    ensures { MatchResult result
+    ensures read { MatchResult result
         (λ v. stations.beacons_of ports.now members.now (table_view station.now) ≡ Ok v.items)
         (λ e. TellsOf e (stations.beacons_of ports.now members.now (table_view station.now))) }
+    ensures short { IfOk result (λ v. IsTrue (list_all stations.has_short_text v.items)) }
 {
     let items = list(value_at(station, FileKey::Beacon), MAX_BEACONS);
     let items = at(alloc, Section::Station, FileKey::Beacon, items)?;
@@ -63,10 +65,12 @@ fn add_beacons(
     requires ports { length ports.now ≤ 8 }
     requires room { length beacons.old.items + length items.now ≤ 64 }
     requires number { number + length items.now ≤ 65 }
-    ensures { MatchResult result
+    requires short { IsTrue (list_all stations.has_short_text beacons.old.items) }
+    ensures read { MatchResult result
         (λ _. stations.beacons_from ports.now members.now number beacons.old.items (map view items.now)
         ≡ Ok beacons.new.items)
         (λ e. TellsOf e (stations.beacons_from ports.now members.now number beacons.old.items (map view items.now))) }
+    ensures short { IfOk result (λ _. IsTrue (list_all stations.has_short_text beacons.new.items)) }
 {
     match items {
         [] => Ok(()),
@@ -88,8 +92,9 @@ fn read_beacon(
     item: &Value,
 ) -> Result<Beacon, Stop>
     requires { length ports.now ≤ 8 }
-    ensures { MatchResult result (λ b. stations.beacon_at ports.now members.now number (view item.now) ≡ Ok b)
+    ensures read { MatchResult result (λ b. stations.beacon_at ports.now members.now number (view item.now) ≡ Ok b)
         (λ e. TellsOf e (stations.beacon_at ports.now members.now number (view item.now))) }
+    ensures short { IfOk result (λ b. IsTrue (stations.has_short_text b)) }
 {
     let section = Section::Beacon(number);
     let table = at(alloc, Section::Station, FileKey::Beacon, table(item))?;

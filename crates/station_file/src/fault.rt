@@ -1,5 +1,5 @@
 //! What is wrong with a table, and where.
-ghost use Rattle.std.specs.Prelude.{◌≡◌, Ok, Err, IfOk, IfErr, MatchResult};
+ghost use Rattle.std.specs.Prelude.{◌≡◌, ◌≤◌, ℕ, length, Ok, Err, IfOk, IfErr, MatchResult};
 ghost use Rattle.station_file.specs.Keys.{word_of};
 ghost use Rattle.station_file.specs.Tables.{Tells, TellsOf, placed, fault_at};
 ghost use Rattle.station_file.specs.Values.{seen};
@@ -83,8 +83,9 @@ pub fn text_at(
     key: FileKey,
     read: Result<&str, Why>,
 ) -> Result<FileText, Stop>
-    ensures { MatchResult result (λ t. placed section key (seen read.entry) ≡ Ok t)
+    ensures read { MatchResult result (λ t. placed section key (seen read.entry) ≡ Ok t)
         (λ e. TellsOf e (placed section key (seen read.entry))) }
+    ensures short { (most : ℕ) → IfOk read.entry (λ s. length s.now ≤ most) → IfOk result (λ t. length t ≤ most) }
 {
     match read {
         Ok(text) => Ok(FileText::new(alloc, text)?),

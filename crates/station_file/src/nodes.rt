@@ -1,5 +1,6 @@
 //! The members of a file that serve users. The station reads them; the post is a member too, with a call and an alias of its own.
-ghost use Rattle.std.specs.Prelude.{◌≡◌, ◌≤◌, ◌+◌, [], length, map, option_map, Ok, Err, IfOk, MatchResult};
+ghost use Rattle.std.specs.Prelude.{◌≡◌, ◌≤◌, ◌+◌, [], length, map, option_map, Ok, Err, IfOk, IsTrue, MatchResult};
+ghost use Rattle.std.specs.List.{list_all};
 ghost use Rattle.toml.specs.View.{view, table_view};
 ghost use Rattle.station_file.specs.Stations as stations;
 ghost use Rattle.station_file.specs.Tables.{TellsOf, value_at};
@@ -60,6 +61,7 @@ pub fn read_members(alloc: Global, station: &Table, ports: &[Port]) -> Result<Ve
     ensures read { MatchResult result (λ v. stations.members_of ports.now (table_view station.now) ≡ Ok v.items)
         (λ e. TellsOf e (stations.members_of ports.now (table_view station.now))) }
     ensures few { IfOk result (λ v. length v.items ≤ 8) }
+    ensures small { IfOk result (λ v. IsTrue (list_all stations.has_small_pieces v.items)) }
 {
     let items = member_items(value_at(station, FileKey::Node));
     let items = at(alloc, Section::Station, FileKey::Node, items)?;
@@ -89,10 +91,12 @@ fn add_members(
     requires ports { length ports.now ≤ 8 }
     requires room { length members.old.items + length items.now ≤ 8 }
     requires number { number + length items.now ≤ 65 }
+    requires small { IsTrue (list_all stations.has_small_pieces members.old.items) }
     ensures read { MatchResult result
         (λ _. stations.members_from ports.now number members.old.items (map view items.now) ≡ Ok members.new.items)
         (λ e. TellsOf e (stations.members_from ports.now number members.old.items (map view items.now))) }
     ensures few { IfOk result (λ _. length members.new.items ≤ 8) }
+    ensures small { IfOk result (λ _. IsTrue (list_all stations.has_small_pieces members.new.items)) }
 {
     match items {
         [] => Ok(()),
@@ -114,8 +118,9 @@ fn read_member(
     item: &Value,
 ) -> Result<Member, Stop>
     requires { length ports.now ≤ 8 }
-    ensures { MatchResult result (λ m. stations.member_at ports.now before.now number (view item.now) ≡ Ok m)
+    ensures read { MatchResult result (λ m. stations.member_at ports.now before.now number (view item.now) ≡ Ok m)
         (λ e. TellsOf e (stations.member_at ports.now before.now number (view item.now))) }
+    ensures small { IfOk result (λ m. IsTrue (stations.has_small_pieces m)) }
 {
     let section = Section::Node(number);
     let table = at(alloc, Section::Station, FileKey::Node, table(item))?;
@@ -140,8 +145,9 @@ fn member_of(
     table: &Table,
 ) -> Result<Member, Stop>
     requires { length ports.now ≤ 8 }
-    ensures { MatchResult result (λ m. stations.member_of ports.now declared (table_view table.now) ≡ Ok m)
+    ensures read { MatchResult result (λ m. stations.member_of ports.now declared (table_view table.now) ≡ Ok m)
         (λ e. TellsOf e (stations.member_of ports.now declared (table_view table.now))) }
+    ensures small { IfOk result (λ m. IsTrue (stations.has_small_pieces m)) }
 {
     let node = declared.node;
     let section = Section::Node(node);
@@ -178,6 +184,36 @@ fn member_of(
         qualities,
         locks,
     })
+}
+
+/// Each member has at most so many qualities of neighbours.
+pub fn need_few_qualities(alloc: Global, members: &[Member], most: usize) -> Result<(), Stop>
+    ensures { MatchResult result (λ _. stations.all_few_qualities most members.now ≡ Ok tt)
+        (λ e. TellsOf e (stations.all_few_qualities most members.now)) }
+{
+    match members {
+        [] => Ok(()),
+        [member, more @ ..] => {
+            few_qualities(alloc, member, most)?;
+            need_few_qualities(alloc, more, most)?;
+            Ok(())
+        }
+    }
+}
+
+fn few_qualities(alloc: Global, member: &Member, most: usize) -> Result<(), Stop>
+    ensures { MatchResult result (λ _. stations.few_qualities most member.now ≡ Ok tt)
+        (λ e. TellsOf e (stations.few_qualities most member.now)) }
+{
+    let count = member.qualities.as_slice().len();
+    let few = needs(count <= most, Why::TooMany { count, most });
+    at(
+        alloc,
+        Section::Node(member.declared.node),
+        FileKey::Qualities,
+        few,
+    )?;
+    Ok(())
 }
 
 /// A call that no member before has.

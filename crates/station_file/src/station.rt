@@ -1,5 +1,5 @@
 //! What the file of a station says. `read_station` reads it of the tables.
-ghost use Rattle.std.specs.Prelude.{◌≡◌, option_map, Ok, Err, MatchResult};
+ghost use Rattle.std.specs.Prelude.{◌≡◌, ◌≤◌, option_map, Ok, Err, MatchResult};
 ghost use Rattle.toml.specs.View.{view, table_view};
 ghost use Rattle.station_file.specs.Stations as stations;
 
@@ -9,7 +9,7 @@ use crate::file_key::FileKey;
 use crate::file_text::FileText;
 use crate::items::denied::read_denied;
 use crate::limits::{DAY_SECONDS, MAX_DENY, MAX_INFO, MAX_NAME};
-use crate::nodes::{Member, read_members};
+use crate::nodes::{Member, need_few_qualities, read_members};
 use crate::ports::{Port, read_ports};
 use crate::posts::{Post, read_post};
 use crate::section::Section;
@@ -37,12 +37,15 @@ pub struct StationFile {
 }
 
 impl Model for StationFile {
-    ghost use Rattle.std.specs.Prelude.{◌≤◌, length};
+    ghost use Rattle.std.specs.Prelude.{◌≤◌, length, IsTrue};
+    ghost use Rattle.std.specs.List.{list_all};
     ghost use Rattle.station_file.specs.Station.{Station};
+    ghost use Rattle.station_file.specs.Stations.{has_short_text, has_small_pieces};
 
     ghost Value = { Station };
 
-    ghost invariant = { λ f. (length f.ports.items ≤ 8) × (length f.members.items ≤ 8) };
+    ghost invariant = { λ f. (length f.ports.items ≤ 8) × (length f.members.items ≤ 8)
+        × IsTrue (list_all has_small_pieces f.members.items) × IsTrue (list_all has_short_text f.beacons.items) };
 
     ghost view = { λ f. record {
       name = f.name;
@@ -58,7 +61,8 @@ impl Model for StationFile {
 }
 
 impl StationFile {
-    ghost use Rattle.std.specs.Prelude.{◌≡◌, ◌≤◌, length, option_copied, Ok, MatchResult};
+    ghost use Rattle.std.specs.Prelude.{◌≡◌, ◌≤◌, length, option_copied, Ok, IsTrue, MatchResult};
+    ghost use Rattle.std.specs.List.{list_all};
     ghost use Rattle.toml.specs.View.{table_view};
     ghost use Rattle.station_file.specs.Stations as stations;
     ghost use Rattle.station_file.specs.Tables.{TellsOf};
@@ -86,6 +90,8 @@ impl StationFile {
         let ports = read_ports(alloc, table)?;
         let members = read_members(alloc, table, &ports)?;
         let post = read_post(alloc, table, &members)?;
+        let left = qualities_left(members.len(), post.is_some());
+        need_few_qualities(alloc, &members, left)?;
         let beacons = read_beacons(alloc, table, &ports, &members)?;
         Ok(StationFile {
             name,
@@ -143,10 +149,11 @@ impl StationFile {
         &self.ports
     }
 
-    /// The members that serve users, in the order of the file: with the post 1 to 8.
+    /// The members that serve users, in the order of the file: with the post 1 to 8. Pieces of a text have at most 256 bytes.
     pub fn members(&self) -> &[Member]
         ensures members { result.now ≡ self.now.members }
         ensures few { length result.now ≤ 8 }
+        ensures small { IsTrue (list_all stations.has_small_pieces result.now) }
     {
         &self.members
     }
@@ -158,12 +165,21 @@ impl StationFile {
         self.post.as_ref()
     }
 
-    /// The beacons, in the order of the file.
+    /// The beacons, in the order of the file. Each has at most 256 bytes of text.
     pub fn beacons(&self) -> &[Beacon]
-        ensures { result.now ≡ self.now.beacons }
+        ensures beacons { result.now ≡ self.now.beacons }
+        ensures short { IsTrue (list_all stations.has_short_text result.now) }
     {
         &self.beacons
     }
+}
+
+/// How many qualities a member has left for its neighbours beside those of the other members.
+fn qualities_left(members: usize, has_post: bool) -> usize
+    requires { members ≤ 8 }
+    ensures { result ≡ stations.qualities_left (stations.count_if has_post members) }
+{
+    17 - members - has_post as usize
 }
 
 /// What is for the hub is a table.

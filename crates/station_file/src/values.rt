@@ -18,7 +18,8 @@ pub fn needs(holds: bool, why: Why) -> Result<(), Why>
 
 /// A text of at least and at most so many bytes, which has to be there.
 pub fn text(value: Option<&Value>, least: usize, most: usize) -> Result<&str, Why>
-    ensures { seen result ≡ values.text least most (option_map (λ v. view v.now) value.entry) }
+    ensures value { seen result ≡ values.text least most (option_map (λ v. view v.now) value.entry) }
+    ensures short { IfOk result (λ s. length s.now ≤ most) }
 {
     match value {
         None => Err(Why::Missing),
@@ -37,7 +38,8 @@ pub fn text_or_none(value: Option<&Value>, most: usize) -> Result<&str, Why>
 }
 
 fn text_of(value: &Value, least: usize, most: usize) -> Result<&str, Why>
-    ensures { seen result ≡ values.text_of least most (as_str (view value.now)) }
+    ensures value { seen result ≡ values.text_of least most (as_str (view value.now)) }
+    ensures short { IfOk result (λ s. length s.now ≤ most) }
 {
     match value.as_str() {
         Some(text) => sized(text, least, most),
@@ -46,7 +48,8 @@ fn text_of(value: &Value, least: usize, most: usize) -> Result<&str, Why>
 }
 
 fn sized(text: &str, least: usize, most: usize) -> Result<&str, Why>
-    ensures { seen result ≡ values.sized least most text.now }
+    ensures value { seen result ≡ values.sized least most text.now }
+    ensures short { IfOk result (λ s. length s.now ≤ most) }
 {
     let bytes = text.len();
     if bytes < least {
@@ -60,7 +63,8 @@ fn sized(text: &str, least: usize, most: usize) -> Result<&str, Why>
 
 /// A whole number in a range, or the default.
 pub fn number(value: Option<&Value>, least: u32, most: u32, default: u32) -> Result<u32, Why>
-    ensures { result ≡ values.number least most default (option_map (λ v. view v.now) value.entry) }
+    ensures value { result ≡ values.number least most default (option_map (λ v. view v.now) value.entry) }
+    ensures in_range { least ≤ default → default ≤ most → IfOk result (λ n. (least ≤ n) × (n ≤ most)) }
 {
     match value {
         None => Ok(default),

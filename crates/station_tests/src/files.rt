@@ -67,7 +67,7 @@ fn a_file_is_read_and_told(rt: HostRuntime) {
 }
 
 /// Files, and what is told of each.
-const REFUSED: [(&str, &str); 7] = [
+const REFUSED: [(&str, &str); 8] = [
     (
         "name = \"x\"\n\n[[node]]\ncall = \"N0AAA-1\"\nports = []\nalias = \"AVHFNOD\"\n",
         "station.toml: line 6: node.alias: 7 bytes, at most 6\n",
@@ -95,6 +95,13 @@ const REFUSED: [(&str, &str); 7] = [
     (
         "name = \"x\"\n[[node]]\ncall = \"N0AAA\"\nalias = \"A\"\nports = [\"2m\"]\n",
         "station.toml: line 5: node.ports: item 1: no such port\n",
+    ),
+    (
+        "name = \"x\"\n[[node]]\ncall = \"N0AAA\"\nalias = \"A\"\n\
+        qualities = [\"N0QA 1\", \"N0QB 1\", \"N0QC 1\", \"N0QD 1\", \"N0QE 1\", \"N0QF 1\", \"N0QG 1\", \"N0QH 1\", \
+        \"N0QI 1\", \"N0QJ 1\", \"N0QK 1\", \"N0QL 1\", \"N0QM 1\", \"N0QN 1\", \"N0QO 1\", \"N0QP 1\"]\n\
+        [[node]]\ncall = \"N0BBB\"\nalias = \"B\"\n",
+        "station.toml: line 5: node.qualities: 16, at most 15\n",
     ),
 ];
 
