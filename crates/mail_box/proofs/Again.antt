@@ -1,7 +1,8 @@
 -- Posts with the same records are the same.
-use Rattle.std.proofs.Common.{◌≡◌, List, Bool, Some, length, sym, ap, ◌∙◌}
+use Rattle.std.proofs.Common.{◌≡◌, List, Some, length, sym, ap, ◌∙◌}
 use Rattle.mail_records.specs.declared.record.Record.{Record}
 use Rattle.mail_box.specs.Boxes.{BoxState, MailsView, MailsStand, after_all, new_box}
+use Rattle.mail_box.specs.declared.post_mail.MailBox.{MailBox}
 use Rattle.mail_box.specs.Kept.{IsKept}
 
 -- what the code keeps of a state
@@ -22,9 +23,9 @@ view_is v b s = λ i. record {
   given = s.given i;
 }
 
-pub same_mails : (LogHolds OtherHolds : List Record → Type 0) (behind other_behind : Bool) (before again : MailsView) (kept : List Record) → IsKept LogHolds behind before kept → IsKept OtherHolds other_behind again kept
-    → before.store.own ≡ again.store.own → again ≡ before
-same_mails LogHolds OtherHolds behind other_behind before again kept k j own =
+pub same_mails : {L K : Type 0} (holds : L → List Record → Type 0) (other_holds : K → List Record → Type 0) (before : MailBox L) (again : MailBox K) (kept : List Record) → IsKept holds before kept
+    → IsKept other_holds again kept → before.mails.store.own ≡ again.mails.store.own → again.mails ≡ before.mails
+same_mails holds other_holds before again kept k j own =
     let both : Some j.state ≡ Some k.state = sym j.after ∙ ap (λ c. after_all (new_box c) kept) (sym own) ∙ k.after in
     let same : j.state ≡ k.state = cc in
-    view_is again j.state j.stands ∙ ap view_of same ∙ sym (view_is before k.state k.stands)
+    view_is again.mails j.state j.stands ∙ ap view_of same ∙ sym (view_is before.mails k.state k.stands)

@@ -8,19 +8,28 @@ use Rattle.ax_address.specs.declared.address_refusal.AddressRefusal.{AddressRefu
 use Rattle.node_mail.specs.Wires.{Wire, Carries, Receipt, wire_at, mail_at, receipt_at, carried, is_mail_size, is_number, mail_tag, receipt_tag}
 use Rattle.node_mail.specs.Lists.{Lists, post_at, post_step, letter_of, is_stored, is_queued_for, mail_of, heard_by, hear_at, kept_after, text_of}
 use Rattle.node_mail.specs.declared.heard.Heard.{Heard}
+use Rattle.node_mail.specs.declared.post_refusal.PostRefusal.{PostRefusal}
 use Rattle.node_mail.specs.declared.heard.Heard.TheVariants as heard
 use Rattle.mail_records.specs.declared.record.Record.{Record}
-use Rattle.mail_records.specs.declared.record.Record.TheVariants.{Settled, Stored}
-use Rattle.mail_box.specs.Boxes.{BoxState, after, gives, has_room, with_lists}
-use Rattle.mail_box.specs.Steps.{IsRecordOf, HearsAsMail, PostsAsMail}
+use Rattle.mail_records.specs.declared.record.Record.TheVariants.{Posted, Settled, Stored}
+use Rattle.mail_box.specs.Boxes.{BoxState, after, gives, has_room, with_lists, with_room}
+use Rattle.mail_box.specs.Inputs.{heard_record, posted_record}
+use Rattle.mail_box.specs.Steps.{HearsAsMail, PostsAsMail}
 
-of_if : (t : Bool) (y x : BoxState) → cond t (Some y) None ≡ Some x → y ≡ x
+pub of_if : (t : Bool) (y x : BoxState) → cond t (Some y) None ≡ Some x → y ≡ x
 of_if true y x e = cc
 of_if false y x e = absurd cc
 
+posted_case : (b x : BoxState) (user dest : Callsign) (text : List ℕ) (r : Record) (says : Result ℕ PostRefusal) → posted_record user dest text says ≡ Some r → after b r ≡ Some x
+    → x.lists ≡ post_step b.lists user dest text
+posted_case b x user dest text r (Err why) is goes = absurd cc
+posted_case b x user dest text r (Ok number) is goes =
+    let same : Posted number user dest text ≡ r = cc in
+    let said : after b (Posted number user dest text) ≡ Some x = subst (λ k. after b k ≡ Some x) (sym same) goes in
+    sym (ap (λ (z : BoxState). z.lists) (of_if (gives (post_at b.lists dest text) number) (with_lists (post_step b.lists user dest text) b) x said))
+
 pub posts_as_mail : PostsAsMail
-posts_as_mail b x number user dest text e =
-    sym (ap (λ (z : BoxState). z.lists) (of_if (gives (post_at b.lists dest text) number) (with_lists (post_step b.lists user dest text) b) x e))
+posts_as_mail b x user dest text r is goes = posted_case b x user dest text r (post_at b.lists dest text) is goes
 
 -- the text of a mail stands behind 16 octets
 text_carried : (n number : ℕ) (text rest : List ℕ) (to : Callsign) (r : Result Callsign AddressRefusal) → carried n rest r ≡ Some (Carries number to text) → text ≡ rest
@@ -64,8 +73,28 @@ said_text s from user number octets None e h = absurd cc
 said_text s from user number octets (Some (Receipt n)) e h = absurd (receipts (is_queued_for s.queued from n) n number user h)
 said_text s from user number octets (Some (Carries n to text)) e h = text_behind octets text n to e
 
-hears_case : (b x : BoxState) (from : Callsign) (octets : List ℕ) (r : Record) (h : Heard) → hear_at b.lists from octets ≡ h → IsRecordOf from (drop 16 octets) h r → after b r ≡ Some x
+-- the record of what was heard
+IsOf : Callsign → List ℕ → Heard → Record → Type 0
+IsOf from text (heard.Stored number user) r = r ≡ Stored from number user text
+IsOf from text (heard.Settled number) r = r ≡ Settled number
+IsOf from text _ r = ⊥
+
+is_of : (b : BoxState) (from : Callsign) (text : List ℕ) (h : Heard) (r : Record) → heard_record from text (with_room b h) ≡ Some r → IsOf from text h r
+unfolding IsOf
+is_of b from text (heard.Stored number user) r is = roomy (has_room b) is
+  where
+    roomy : (room : Bool) → heard_record from text (cond room (heard.Stored number user) (heard.Full number)) ≡ Some r → r ≡ Stored from number user text
+    roomy true is = cc
+    roomy false is = absurd cc
+is_of b from text (heard.Settled number) r is = cc
+is_of b from text (heard.Again number) r is = absurd cc
+is_of b from text (heard.Stray number) r is = absurd cc
+is_of b from text (heard.Full number) r is = absurd cc
+is_of b from text heard.Bad r is = absurd cc
+
+hears_case : (b x : BoxState) (from : Callsign) (octets : List ℕ) (r : Record) (h : Heard) → hear_at b.lists from octets ≡ h → IsOf from (drop 16 octets) h r → after b r ≡ Some x
     → x.lists ≡ kept_after b.lists from (text_of (wire_at octets)) h
+unfolding IsOf
 hears_case b x from octets r (heard.Stored number user) e is goes =
     let text = said_text b.lists from user number octets (wire_at octets) refl e in
     let said : after b (Stored from number user (drop 16 octets)) ≡ Some x = subst (λ k. after b k ≡ Some x) is goes in
@@ -80,4 +109,5 @@ hears_case b x from octets r (heard.Full number) e is goes = absurd is
 hears_case b x from octets r heard.Bad e is goes = absurd is
 
 pub hears_as_mail : HearsAsMail
-hears_as_mail b x from octets r is goes = hears_case b x from octets r (hear_at b.lists from octets) refl is goes
+hears_as_mail b x from octets r is goes =
+    let h = hear_at b.lists from octets in hears_case b x from octets r h refl (is_of b from (drop 16 octets) h r is) goes

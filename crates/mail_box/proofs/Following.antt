@@ -13,7 +13,7 @@ true_of : (b : Bool) → T b → b ≡ true
 true_of true t = refl
 true_of false t = absurd t
 
-true_or_false : {A : Type 0} → ◌≡◌ {A = Bool} true false → A
+pub true_or_false : {A : Type 0} → ◌≡◌ {A = Bool} true false → A
 true_or_false e = absurd cc
 
 same_number : (n : ℕ) → (n == n) ≡ true
@@ -30,7 +30,7 @@ posted_follows b number user dest text e = if_some (gives (post_at b.lists dest 
 pub local_follows : (b : BoxState) (user : Callsign) (text : List ℕ) → has_room b ≡ true → IsSome (after b (Local user text))
 local_follows b user text e = if_some (has_room b) _ e
 
-both : (a b : Bool) → a ≡ true → b ≡ false → (a && not b) ≡ true
+pub both : (a b : Bool) → a ≡ true → b ≡ false → (a && not b) ≡ true
 both true false e f = refl
 both true true e f = true_or_false f
 both false b e f = true_or_false (sym e)

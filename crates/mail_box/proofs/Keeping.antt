@@ -1,14 +1,15 @@
 -- A record that was written down and applied is kept.
-use Rattle.std.proofs.Common.{◌≡◌, ◌⊎◌, inl, inr, ℕ, List, [], ◌∷◌, ◌++◌, Bool, true, false, cond, Option, Some, None, Ok, Err, Result, refl, sym, ap, subst, ◌∙◌}
-use Rattle.std.specs.Prelude.{OnOk, is_some, option_and_then, ◌&&◌, ◌||◌, not, nat_le, length}
+use Rattle.std.proofs.Common.{◌≡◌, ◌⊎◌, ℕ, List, [], ◌∷◌, ◌++◌, Bool, true, false, cond, Option, Some, None, Ok, Err, Result, refl, sym, ap, subst, ◌∙◌}
+use Rattle.std.specs.Prelude.{is_some, option_and_then, ◌&&◌, ◌||◌, not, nat_le, length}
 use Rattle.ax_address.specs.Callsign.{Callsign}
 use Rattle.node_mail.specs.Lists.{Lists, is_stored, mail_of, post_at, posted_by}
 use Rattle.node_mail.specs.declared.post_refusal.PostRefusal.{PostRefusal}
 use Rattle.mail_records.specs.declared.record.Record.{Record}
 use Rattle.mail_records.specs.declared.record.Record.TheVariants.{Posted, Settled, Stored, Local, Read, Killed}
 use Rattle.mail_box.specs.Boxes.{BoxState, MailsView, MailsStand, Goes, added, after, after_all, has_room, killed_at, new_box, place_of, with_lists}
-use Rattle.mail_box.specs.declared.box_refusal.BoxRefusal.{BoxRefusal}
-use Rattle.mail_box.specs.Kept.{IsKept, AfterAll}
+use Rattle.mail_box.specs.declared.post_mail.MailBox.{MailBox}
+use Rattle.mail_box.specs.Inputs.{Input, record_of, with_record}
+use Rattle.mail_box.specs.Kept.{AfterAll, FindsAtMost, IsFoundToo, IsKept, IsRecordOf, Keeps}
 
 then_same : (o : Option BoxState) → option_and_then (λ y. Some y) o ≡ o
 then_same None = refl
@@ -51,21 +52,18 @@ own_after b (Local user text) = own_if b.lists.own _ _ refl
 own_after b (Read letter) = own_if b.lists.own _ _ refl
 own_after b (Killed letter) = own_killed b (place_of letter b.letters)
 
-module _ (LogHolds : List Record → Type 0) (old new : MailsView) (kept : List Record) (r : Record) (b : BoxState) (was : after_all (new_box old.store.own) kept ≡ Some b) (stood : MailsStand old b) (log : LogHolds (kept ++ r ∷ [])) where
-  keeps_case : (o : Option BoxState) → after b r ≡ o → HasOwn b.lists.own o → Goes true old new o → IsKept LogHolds false new (kept ++ r ∷ [])
-  unfolding HasOwn
-  keeps_case None e own goes = absurd goes
-  keeps_case (Some x) e own goes =
-      let same : new.store.own ≡ old.store.own = goes.store.own ∙ own ∙ sym stood.store.own in
-      record { log = log; is_up = refl; state = x; after = ap (λ c. after_all (new_box c) (kept ++ r ∷ [])) same ∙ after_push (new_box old.store.own) b kept r was ∙ e; stands = goes }
+keeps_case : {L : Type 0} (holds : L → List Record → Type 0) (old : MailsView) (new : MailBox L) (kept : List Record) (r : Record) (b : BoxState) → after_all (new_box old.store.own) kept ≡ Some b → MailsStand old b
+    → holds new.log (kept ++ r ∷ []) → new.is_behind ≡ false → (o : Option BoxState) → after b r ≡ o → HasOwn b.lists.own o → Goes true old new.mails o → IsKept holds new (kept ++ r ∷ [])
+unfolding HasOwn
+keeps_case holds old new kept r b was stood log up None e own goes = absurd goes
+keeps_case holds old new kept r b was stood log up (Some x) e own goes =
+    let same : new.mails.store.own ≡ old.store.own = goes.store.own ∙ own ∙ sym stood.store.own in
+    record { log = log; is_up = up; state = x; after = ap (λ c. after_all (new_box c) (kept ++ r ∷ [])) same ∙ after_push (new_box old.store.own) b kept r was ∙ e; stands = goes }
 
-pub keeps : (LogHolds LogHolds' : List Record → Type 0) (behind : Bool) (old new : MailsView) (kept : List Record) (r : Record) → IsKept LogHolds behind old kept → LogHolds' (kept ++ r ∷ [])
-    → ((b : BoxState) → MailsStand old b → Goes true old new (after b r)) → IsKept LogHolds' false new (kept ++ r ∷ [])
-keeps LogHolds LogHolds' behind old new kept r k log goes = keeps_case LogHolds' old new kept r k.state k.after k.stands log (after k.state r) refl (own_after k.state r) (goes k.state k.stands)
-
--- what wasn't changed is kept
-pub stays : (LogHolds LogHolds' : List Record → Type 0) (behind : Bool) (mails : MailsView) (kept : List Record) → IsKept LogHolds behind mails kept → LogHolds' kept → IsKept LogHolds' behind mails kept
-stays LogHolds LogHolds' behind mails kept k log = record { log = log; is_up = k.is_up; state = k.state; after = k.after; stands = k.stands }
+keeps : {L : Type 0} (holds : L → List Record → Type 0) (old new : MailBox L) (kept : List Record) (r : Record) → IsKept holds old kept → holds new.log (kept ++ r ∷ []) → new.is_behind ≡ false
+    → ((b : BoxState) → MailsStand old.mails b → Goes true old.mails new.mails (after b r)) → IsKept holds new (kept ++ r ∷ [])
+keeps holds old new kept r k log up goes =
+    keeps_case holds old.mails new kept r k.state k.after k.stands log up (after k.state r) refl (own_after k.state r) (goes k.state k.stands)
 
 -- one record more of several
 pub all_push : (x : BoxState) (kept : List Record) (r : Record) (old new : MailsView) (o : Option BoxState) → after_all x kept ≡ o → AfterAll old o → ((b : BoxState) → MailsStand old b → Goes true old new (after b r))
@@ -91,11 +89,6 @@ pub all_some : (mails : MailsView) (o : Option BoxState) → AfterAll mails o �
 all_some mails None stands = absurd stands
 all_some mails (Some b) stands = refl
 
--- some record
-pub more : (P : Type 0) (kept found : List Record) (r : Record) → P ⊎ (found ≡ kept ++ r ∷ []) → P ⊎ ((entry : Record) × (found ≡ kept ++ entry ∷ []))
-more P kept found r (inl was) = inl was
-more P kept found r (inr is) = inr (r, is)
-
 -- a mail that is stored, with a letter for its user
 pub stored_goes : (b : BoxState) (origin user : Callsign) (number : ℕ) (text : List ℕ) (old new : MailsView) → has_room b ≡ true
     → not (is_stored b.lists.stored origin number || nat_le 4096 (length b.lists.stored)) ≡ true
@@ -109,11 +102,21 @@ stored_goes b origin user number text old new room put stands =
     both_true true y e f = f
     both_true false y e f = e
 
-pub keeps_on : (LogHolds LogHolds' : List Record → Type 0) (behind behind' : Bool) (old new : MailsView) (r : Record) (result : Result (Unit {0}) BoxRefusal) → behind ≡ false → OnOk result (behind' ≡ behind)
-    → OnOk result ((b : BoxState) → MailsStand old b → Goes true old new (after b r)) → ((kept : List Record) → LogHolds kept → LogHolds' (kept ++ r ∷ []))
-    → OnOk result ((kept : List Record) → IsKept LogHolds behind old kept → IsKept LogHolds' behind' new (kept ++ r ∷ []))
-keeps_on LogHolds LogHolds' behind behind' old new r (Ok u) down up goes log = λ kept k. subst (λ x. IsKept LogHolds' x new (kept ++ r ∷ [])) (sym (up ∙ down)) (keeps LogHolds LogHolds' behind old new kept r k (log kept k.log) goes)
-keeps_on LogHolds LogHolds' behind behind' old new r (Err e) down up goes log = tt
+-- the record of an input was written down and applied
+pub keeps_on : {L : Type 0} (holds : L → List Record → Type 0) (old new : MailBox L) (r : Record) → new.is_behind ≡ false → ((b : BoxState) → MailsStand old.mails b → Goes true old.mails new.mails (after b r))
+    → ((kept : List Record) → holds old.log kept → holds new.log (kept ++ r ∷ [])) → (input : Input) → IsRecordOf old.mails input r → Keeps holds old new input
+keeps_on holds old new r up goes log input is kept k = subst (λ o. IsKept holds new (with_record kept o)) (sym (is k.state k.stands)) (keeps holds old new kept r k (log kept k.log) up goes)
+
+-- an input without a record changes nothing
+pub keeps_none : {L : Type 0} (holds : L → List Record → Type 0) (post : MailBox L) (input : Input) → ((b : BoxState) → MailsStand post.mails b → record_of b input ≡ None) → Keeps holds post post input
+keeps_none holds post input none kept k = subst (λ o. IsKept holds post (with_record kept o)) (sym (none k.state k.stands)) k
+
+-- the program ends within the writing of a record
+pub finds_at_most : {L : Type 0} (holds may_find : L → List Record → Type 0) (old new : MailBox L) (r : Record)
+    → ((kept found : List Record) → holds old.log kept → may_find new.log found → may_find old.log found ⊎ (found ≡ kept ++ r ∷ [])) → (input : Input) → IsRecordOf old.mails input r
+    → FindsAtMost holds may_find old new input
+finds_at_most holds may_find old new r crash input is b kept found stands held may =
+    subst (λ o. may_find old.log found ⊎ IsFoundToo kept o found) (sym (is b stands)) (crash kept found held may)
 
 -- ---- after all records
 
@@ -127,12 +130,13 @@ unfolding HasOwn
 own_all x [] = refl
 own_all x (r ∷ rs) = own_case rs (λ y. own_all y rs) x.lists.own (after x r) (own_after x r)
 
-over_case : (LogHolds : List Record → Type 0) (own : Callsign) (mails : MailsView) (kept : List Record) → LogHolds kept → (o : Option BoxState) → after_all (new_box own) kept ≡ o → HasOwn own o → AfterAll mails o
-    → IsKept LogHolds false mails kept
+over_case : {L : Type 0} (holds : L → List Record → Type 0) (own : Callsign) (post : MailBox L) (kept : List Record) → holds post.log kept → post.is_behind ≡ false → (o : Option BoxState)
+    → after_all (new_box own) kept ≡ o → HasOwn own o → AfterAll post.mails o → IsKept holds post kept
 unfolding HasOwn
-over_case LogHolds own mails kept log None e is stands = absurd stands
-over_case LogHolds own mails kept log (Some b) e is stands =
-    record { log = log; is_up = refl; state = b; after = ap (λ c. after_all (new_box c) kept) (stands.store.own ∙ is) ∙ e; stands = stands }
+over_case holds own post kept log up None e is stands = absurd stands
+over_case holds own post kept log up (Some b) e is stands =
+    record { log = log; is_up = up; state = b; after = ap (λ c. after_all (new_box c) kept) (stands.store.own ∙ is) ∙ e; stands = stands }
 
-pub over_kept : (LogHolds : List Record → Type 0) (own : Callsign) (mails : MailsView) (kept : List Record) → LogHolds kept → AfterAll mails (after_all (new_box own) kept) → IsKept LogHolds false mails kept
-over_kept LogHolds own mails kept log stands = over_case LogHolds own mails kept log (after_all (new_box own) kept) refl (own_all (new_box own) kept) stands
+pub over_kept : {L : Type 0} (holds : L → List Record → Type 0) (own : Callsign) (post : MailBox L) (kept : List Record) → holds post.log kept → post.is_behind ≡ false → AfterAll post.mails (after_all (new_box own) kept)
+    → IsKept holds post kept
+over_kept holds own post kept log up stands = over_case holds own post kept log up (after_all (new_box own) kept) refl (own_all (new_box own) kept) stands

@@ -1,4 +1,9 @@
 pub mod Again
 pub mod AsMail
+pub mod Between
 pub mod Following
 pub mod Keeping
+pub mod Ledgers
+pub mod Numbers
+pub mod Recording
+pub mod Telling

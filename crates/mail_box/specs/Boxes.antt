@@ -3,6 +3,7 @@ use Rattle.std.specs.Prelude.{◌≡◌, ℕ, ◌+◌, ◌^◌, ◌==◌, nat_le
 use Rattle.std.specs.List.{list_any}
 use Rattle.ax_address.specs.Callsign.{Callsign}
 use Rattle.node_mail.specs.Lists.{Lists, StoreView, StandsFor, nothing_kept, post_at, post_step, letter_of, without, is_stored, mail_of}
+use Rattle.node_mail.specs.declared.mail.Mail.{Mail}
 use Rattle.node_mail.specs.declared.post_refusal.PostRefusal.{PostRefusal}
 use Rattle.node_mail.specs.declared.heard.Heard.{Heard}
 use Rattle.node_mail.specs.declared.heard.Heard.TheVariants as heard
@@ -44,6 +45,9 @@ with_room b other = other
 abbrev pub with_lists : Lists → BoxState → BoxState
 with_lists lists b = record b { lists = lists }
 
+abbrev pub with_stored : Mail → BoxState → BoxState
+with_stored mail b = with_lists (record b.lists { stored = b.lists.stored ++ mail ∷ [] }) b
+
 -- a mail gets that number
 abbrev pub gives : Result ℕ PostRefusal → ℕ → Bool
 gives (Ok n) number = n == number
@@ -53,8 +57,8 @@ abbrev pub killed_at : BoxState → Option ℕ → Option BoxState
 killed_at b (Some at) = Some (record b { letters = remove b.letters at })
 killed_at b None = None
 
--- What is there after a record, where it can follow. A mail is posted under the next number, settled where it is queued, stored where it
--- wasn't yet; a letter is read once, and killed where it is kept.
+-- What is there after a record, where it can follow. A mail is posted under the next number, settled where it is queued,
+-- stored where it wasn't yet; a letter is read once, and killed where it is kept.
 abbrev pub after : BoxState → Record → Option BoxState
 after b (Posted number user dest text) =
     if gives (post_at b.lists dest text) number then Some (with_lists (post_step b.lists user dest text) b) else None
@@ -63,7 +67,7 @@ after b (Settled number) =
     then Some (with_lists (record b.lists { queued = without number b.lists.queued }) b) else None
 after b (Stored origin number user text) =
     if has_room b && not (is_stored b.lists.stored origin number || nat_le 4096 (length b.lists.stored))
-    then Some (added user text (with_lists (record b.lists { stored = b.lists.stored ++ mail_of origin number user text ∷ [] }) b)) else None
+    then Some (added user text (with_stored (mail_of origin number user text) b)) else None
 after b (Local user text) = if has_room b then Some (added user text b) else None
 after b (Read letter) =
     if is_some (place_of letter b.letters) && not (has_number letter b.read)
@@ -76,7 +80,6 @@ after_all b [] = Some b
 after_all b (r ∷ rs) = option_and_then (λ x. after_all x rs) (after b r)
 
 -- what the code keeps of it
-
 pub record MailsView : Type 0 where
   pub store : StoreView
   pub letters : List Letter

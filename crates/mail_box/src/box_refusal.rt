@@ -1,7 +1,8 @@
-//! Why a post didn't do what was asked. Called by `changing`.
+//! Why a post didn't do what was asked. Called by `changing` and `post_mail`.
+use mail_records::LogFailed;
 use node_mail::PostRefusal;
 
-/// Why a post didn't do what was asked. Then nothing is changed.
+/// Why a post didn't do what was asked.
 #[derive(Clone, Copy, Debug, PartialEq, Eq)]
 pub enum BoxRefusal {
     /// A mail isn't posted.
@@ -10,6 +11,8 @@ pub enum BoxRefusal {
     NoRoom,
     /// No such letter is kept.
     NoLetter,
-    /// It can't be written down, or there was no memory.
-    NotKept,
+    /// It isn't kept: the log has failed so, or there is no memory. The log may have to be opened again.
+    NotKept(LogFailed),
+    /// A record was written before that wasn't applied, for want of memory: the log has to be opened again.
+    Behind,
 }

@@ -1,4 +1,5 @@
-//! The letters and mails of a post, over a log: each change is written down before anything that rests on it goes out. Own profile.
+//! The letters and mails of a post, over a log: each change is written down before anything that rests on it goes out. Own
+//! profile.
 #![tactic(auto)]
 
 mod box_refusal;

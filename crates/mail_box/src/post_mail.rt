@@ -1,9 +1,10 @@
 //! A post's mail over its log. Called by whoever runs a post.
-ghost use Rattle.std.specs.Prelude.{◌≡◌, ◌++◌, ◌∷◌, ◌⊎◌, [], List, true, false, IfOk, IfErr, OnOk, OnErr};
-ghost use Rattle.mail_records.specs.declared.record.Record.{Record as Written};
+ghost use Rattle.std.specs.Prelude.{◌≡◌, true, false, IfOk, IfErr, OnOk, OnErr};
 ghost use Rattle.mail_records.specs.Records.{IsNumbered};
 ghost use Rattle.mail_box.specs.Boxes.{BoxState, Goes, MailsStand, after, after_all, new_box};
-ghost use Rattle.mail_box.specs.Kept.{AfterAll, IsKept, IsStopped, MayFollow};
+ghost use Rattle.mail_box.specs.Inputs.{Input};
+ghost use Rattle.mail_box.specs.Kept.{AfterAll, FindsAtMost, IsKept, IsRecordOf, IsStopped, Keeps, MayFollow, Stays};
+ghost use Rattle.mail_box.specs.Refused.{HasBoxCause, IsUnkept};
 
 use crate::box_refusal::BoxRefusal;
 use crate::mails::Mails;
@@ -23,15 +24,15 @@ pub struct MailBox<L: Log + Drop> {
 }
 
 impl<L: Log + Drop> MailBox<L> {
-    /// The post of this call over a log that was opened, with its records. The place, from 1, of the first record that can't follow on
-    /// those before, where there is one.
+    /// The post of this call over a log that was opened, with its records. The place, from 1, of the first record that
+    /// can't follow on those before, where there is one.
     pub fn over(
         alloc: Global,
         own: Call,
         log: L,
         records: &[Record],
     ) -> Result<MailBox<L>, LogFailed>
-        ensures kept { IfOk result (λ post. L.holds log records.now → IsKept (L.holds post.log) post.is_behind post.mails records.now) }
+        ensures kept { IfOk result (λ post. L.holds log records.now → IsKept L.holds post records.now) }
         ensures same { IfOk result (λ post. post.log ≡ log) }
         ensures stopped { IfErr result (IsStopped (new_box own) records.now) }
     {
@@ -65,40 +66,45 @@ impl<L: Log + Drop> MailBox<L> {
     pub(crate) fn keep(&mut self, entry: &Record) -> Result<(), BoxRefusal>
         requires numbered { IsNumbered entry.now }
         requires follows { MayFollow self.old.mails entry.now }
-        ensures kept { L.is_honest self.new.log → OnOk result ((kept : List Written) →
-            IsKept (L.holds self.old.log) self.old.is_behind self.old.mails kept →
-            IsKept (L.holds self.new.log) self.new.is_behind self.new.mails (kept ++ entry.now ∷ [])) }
-        ensures refused { IfErr result (λ why. why ≡ BoxRefusal.NotKept) }
-        ensures err { L.is_honest self.new.log → OnErr result (L.is_open self.new.log → self.new.is_behind ≡ false →
-            (kept : List Written) → IsKept (L.holds self.old.log) self.old.is_behind self.old.mails kept →
-            IsKept (L.holds self.new.log) self.new.is_behind self.new.mails kept) }
-        ensures crash { L.is_honest self.new.log → (kept : List Written) (found : List Written) → L.holds self.old.log kept →
-            L.may_find self.new.log found → L.may_find self.old.log found ⊎ (found ≡ kept ++ entry.now ∷ []) }
+        ensures kept { L.is_honest self.new.log → OnOk result ((input : Input) →
+            IsRecordOf self.old.mails input entry.now → Keeps L.holds self.old self.new input) }
+        ensures goes { OnOk result ((b : BoxState) → MailsStand self.old.mails b →
+            Goes true self.old.mails self.new.mails (after b entry.now)) }
+        ensures refused { IfErr result IsUnkept }
+        ensures err { L.is_honest self.new.log → OnErr result (Stays L.holds L.is_open self.old self.new) }
+        ensures cause { L.is_honest self.new.log → IfErr result (HasBoxCause L.holds L.faults self.old self.new) }
+        ensures crash { L.is_honest self.new.log → (input : Input) → IsRecordOf self.old.mails input entry.now →
+            FindsAtMost L.holds L.may_find self.old self.new input }
         ensures honest { L.is_honest self.new.log → L.is_honest self.old.log }
     {
         if self.is_behind {
-            return Err(BoxRefusal::NotKept);
+            return Err(BoxRefusal::Behind);
         }
         match self.log.append(entry) {
-            Ok(()) => self.follow(entry),
-            Err(_) => Err(BoxRefusal::NotKept),
+            Ok(()) => {
+                if self.follow(entry) {
+                    Ok(())
+                } else {
+                    Err(BoxRefusal::NotKept(LogFailed::Memory))
+                }
+            }
+            Err(why) => Err(BoxRefusal::NotKept(why)),
         }
     }
 
-    /// Applies a record that was written down.
-    fn follow(&mut self, entry: &Record) -> Result<(), BoxRefusal>
+    /// Applies a record that was written down. False where there is no memory for that: then the log has to be opened again.
+    fn follow(&mut self, entry: &Record) -> bool
         ensures log { self.new.log ≡ self.old.log }
-        ensures up { OnOk result (self.new.is_behind ≡ self.old.is_behind) }
-        ensures goes { OnOk result ((b : BoxState) → MailsStand self.old.mails b →
-            Goes true self.old.mails self.new.mails (after b entry.now)) }
-        ensures behind { OnErr result (self.new.is_behind ≡ true) }
-        ensures refused { IfErr result (λ why. why ≡ BoxRefusal.NotKept) }
+        ensures up { result ≡ true → self.new.is_behind ≡ self.old.is_behind }
+        ensures goes { result ≡ true → (b : BoxState) → MailsStand self.old.mails b →
+            Goes true self.old.mails self.new.mails (after b entry.now) }
+        ensures behind { result ≡ false → self.new.is_behind ≡ true }
     {
         match self.mails.apply(entry) {
-            Ok(true) => Ok(()),
+            Ok(true) => true,
             _ => {
                 self.is_behind = true;
-                Err(BoxRefusal::NotKept)
+                false
             }
         }
     }
@@ -106,7 +112,8 @@ impl<L: Log + Drop> MailBox<L> {
 
 /// Applies records in their order.
 fn apply_all(mails: &mut Mails, records: &[Record]) -> Result<(), LogFailed>
-    ensures follow { OnOk result ((b : BoxState) → MailsStand mails.old b → AfterAll mails.new (after_all b records.now)) }
+    ensures follow { OnOk result ((b : BoxState) → MailsStand mails.old b →
+        AfterAll mails.new (after_all b records.now)) }
     ensures stopped { IfErr result (λ why. (b : BoxState) → MailsStand mails.old b → IsStopped b records.now why) }
 {
     let mut place = 0u64;

@@ -2,7 +2,7 @@
 use ax_address::Call;
 use l3_datagram::Message;
 use mail_box::{BoxRefusal, MailBox};
-use mail_records::{Failure, MemoryLog};
+use mail_records::{Failure, LogFailed, MemoryLog};
 use node_mail::Heard;
 use std::alloc::Global;
 use std::process::Abort;
@@ -133,7 +133,9 @@ fn no_receipt_goes_out_for_what_was_not_kept(rt: HostRuntime) {
     };
     let mut second = post_of(&rt, alloc, &there, Some(failure));
     let mut out = Message::new();
-    assert!(&rt; second.hear(&here, &message, &mut out) == Err(BoxRefusal::NotKept));
+    assert!(&rt;
+        second.hear(&here, &message, &mut out) == Err(BoxRefusal::NotKept(LogFailed::Disk))
+    );
     assert!(&rt; out.is_empty());
     assert!(&rt; second.mails().letters().is_empty());
 }

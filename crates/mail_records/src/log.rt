@@ -28,7 +28,8 @@ pub trait Log {
     /// Writes a record behind all others. At `Ok` it is kept: whenever the program ends from then on, an opening finds it.
     fn append(&mut self, entry: &Record) -> Result<(), LogFailed>
         requires numbered { IsNumbered entry.now }
-        ensures ok { is_honest self.new → OnOk result ((kept : List Kept) → holds self.old kept → holds self.new (kept ++ entry.now ∷ [])) }
+        ensures ok { is_honest self.new → OnOk result ((kept : List Kept) →
+            holds self.old kept → holds self.new (kept ++ entry.now ∷ [])) }
 
         // Nothing has changed. Where the log isn't open any more, an opening finds the record or not, as `crash` says.
         ensures err { is_honest self.new → OnErr result (is_open self.new →
@@ -37,20 +38,22 @@ pub trait Log {
             (kept : List Kept) → holds self.old kept → HasCause (faults self.old) (faults self.new) kept why) }
 
         // Where the program ends inside the call, an opening finds what it could have found before, or the record too.
-        ensures crash { is_honest self.new → (kept : List Kept) (found : List Kept) → holds self.old kept → may_find self.new found →
+        ensures crash { is_honest self.new → (kept found : List Kept) → holds self.old kept → may_find self.new found →
             may_find self.old found ⊎ (found ≡ kept ++ entry.now ∷ []) }
         ensures honest { is_honest self.new → is_honest self.old };
 
     /// All records, the oldest first.
     fn records(&mut self, alloc: Global) -> Result<Vec<Record>, LogFailed>
-        ensures ok { is_honest self.new → IfOk result (λ records. (kept : List Kept) → holds self.old kept → records.items ≡ kept) }
-        ensures same { is_honest self.new → OnOk result ((kept : List Kept) → holds self.old kept → holds self.new kept) }
+        ensures ok { is_honest self.new → IfOk result (λ records.
+            (kept : List Kept) → holds self.old kept → records.items ≡ kept) }
+        ensures same { is_honest self.new → OnOk result (
+            (kept : List Kept) → holds self.old kept → holds self.new kept) }
         ensures cause { is_honest self.new → IfErr result (λ why.
             (kept : List Kept) → holds self.old kept → HasCause (faults self.old) (faults self.new) kept why) }
-        ensures crash { is_honest self.new → (kept : List Kept) (found : List Kept) → holds self.old kept →
+        ensures crash { is_honest self.new → (kept found : List Kept) → holds self.old kept →
             may_find self.new found → may_find self.old found }
         ensures honest { is_honest self.new → is_honest self.old };
 
     /// Where the program ends while the log is open, an opening finds what the log holds, and nothing else.
-    ghost settled: { (log : Self) (kept : List Kept) (found : List Kept) → holds log kept → may_find log found → found ≡ kept };
+    ghost settled: { (log : Self) (kept found : List Kept) → holds log kept → may_find log found → found ≡ kept };
 }

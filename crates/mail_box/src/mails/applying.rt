@@ -11,7 +11,8 @@ use mail_records::{LetterText, Record};
 use radio_base::NoMemory;
 
 impl Mails {
-    /// Applies a record. False where it can't follow on what is there: then nothing is changed. After `NoMemory` nothing is known.
+    /// Applies a record. False where it can't follow on what is there: then nothing is changed. After `NoMemory` nothing
+    /// is known.
     pub fn apply(&mut self, entry: &Record) -> Result<bool, NoMemory>
         ensures { IfOk result (λ follows. (b : BoxState) → MailsStand self.old b →
             Goes follows self.old self.new (boxes.after b entry.now)) }
@@ -61,7 +62,8 @@ impl Mails {
     }
 
     fn apply_settled(&mut self, number: u64) -> bool
-        ensures { (b : BoxState) → MailsStand self.old b → Goes result self.old self.new (boxes.after b (records.Settled number)) }
+        ensures { (b : BoxState) → MailsStand self.old b →
+            Goes result self.old self.new (boxes.after b (records.Settled number)) }
     {
         self.store.settle(number)
     }
@@ -100,7 +102,8 @@ impl Mails {
     /// Puts a letter behind the others.
     fn add_letter(&mut self, user: &Call, text: &LetterText) -> Result<(), NoMemory>
         requires { self.old.given < 2 ^ 62 }
-        ensures { OnOk result ((b : BoxState) → MailsStand self.old b → MailsStand self.new (boxes.added user.now text.now b)) }
+        ensures { OnOk result ((b : BoxState) → MailsStand self.old b →
+            MailsStand self.new (boxes.added user.now text.now b)) }
     {
         let text = text.copy(self.alloc)?;
         let number = self.given + 1;
@@ -125,7 +128,8 @@ impl Mails {
     }
 
     fn apply_killed(&mut self, letter: u64) -> bool
-        ensures { (b : BoxState) → MailsStand self.old b → Goes result self.old self.new (boxes.after b (records.Killed letter)) }
+        ensures { (b : BoxState) → MailsStand self.old b →
+            Goes result self.old self.new (boxes.after b (records.Killed letter)) }
     {
         match place_of(&self.letters, letter) {
             Some(at) => {
