@@ -1,4 +1,6 @@
 pub mod Clauses
+pub mod Creating
+pub mod Failing
 pub mod Inserting
 pub mod Tables
 pub mod Readable

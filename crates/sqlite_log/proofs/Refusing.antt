@@ -1,5 +1,5 @@
 -- Why an insert into a log, or a query of it, fails.
-use Rattle.std.proofs.Common.{◌≡◌, ◌⊎◌, inl, inr, ℕ, zero, suc, ◌+◌, ◌-◌, ◌^◌, ◌<◌, ◌≤◌, pos, ◌<ℤ◌, List, [], ◌∷◌, ◌++◌, length, map, codes, Bool, true, false, not, ◌&&◌, nat_le, nat_lt, Option, Some, None, Ok, Err, Result, refl, sym, ap, ap₂, subst, subst₂, ◌∙◌, arith, Less, append-nil, length-append, option_map}
+use Rattle.std.proofs.Common.{◌≡◌, inl, inr, ℕ, zero, suc, ◌+◌, ◌-◌, ◌^◌, ◌<◌, ◌≤◌, pos, ◌<ℤ◌, List, [], ◌∷◌, ◌++◌, length, map, codes, Bool, true, false, not, ◌&&◌, nat_le, nat_lt, Option, Some, None, Err, refl, sym, ap, ap₂, subst, subst₂, ◌∙◌, arith, Less, append-nil, length-append, option_map}
 use Rattle.std.specs.Prelude.{Any}
 use Rattle.std.specs.Float.{NotNan}
 use lib.Ieee.{is_nan}
@@ -9,7 +9,7 @@ use Rattle.std.specs.Prelude.{◌==◌}
 use Rattle.std.proofs.lemmas.List.Sums.{sum_by-cons}
 use Rattle.std.specs.List.{AllByRecursion, list_all, list_any}
 use Rattle.std.specs.Ordering.{is_eq}
-use Rattle.std.proofs.lemmas.Bool.{cases_Bool, leb-true, ltb-true, ltb-false}
+use Rattle.std.proofs.lemmas.Bool.{cases_Bool, ltb-true, ltb-false}
 use Rattle.std.proofs.lemmas.Int.{ints}
 use Rattle.std.proofs.lemmas.Nat.Bits.{bit_at-zero}
 use Rattle.std.proofs.lemmas.List.Elements.{All-from_recursion}
@@ -24,9 +24,7 @@ use Rattle.sqlite.specs.declared.types.Value.{Value}
 use Rattle.sqlite.specs.declared.types.Value.TheVariants.{Null, Int, Text as Words, Blob as Octets}
 use Rattle.sqlite.specs.Order.{Row, value_cmp, bytes, number}
 use Rattle.sqlite.specs.Tree.{Trees, rowid}
-use Rattle.sqlite.specs.Command.{Command}
 use Rattle.sqlite.specs.Source.TheVariants.{Values}
-use Rattle.sqlite.specs.declared.run.Mode.{Mode}
 use Rattle.sqlite.specs.Rows.{Sourced}
 use Rattle.sqlite.specs.Edit.{Edit, edit_of, next_rowid, with_rowid}
 use Rattle.sqlite.specs.Rowids.TheVariants.{Chosen}
@@ -36,13 +34,10 @@ use Rattle.sqlite.specs.declared.error.ErrorCode.TheVariants as code
 use Rattle.sqlite.specs.Listing.{understood, reads_listing, IsSourceOf}
 use Rattle.sqlite.specs.Effect.{Database, edit_error, RefusesToRead}
 use Rattle.sqlite.specs.Does.{Does}
-use Rattle.sqlite.specs.State.{State, mode_of, Executes, ExecutesIn, IsNotRun, IsMisplaced, IsNoStatement, Fails, RunsCommand, store_error, text_of, FailsToQuery, shows_rows}
-use Rattle.sqlite.specs.State as states
+use Rattle.sqlite.specs.State.{State, mode_of, Executes, ExecutesIn, IsNotRun, text_of, FailsToQuery}
 use Rattle.sqlite.proofs.Callers.{IsPlain, command_of}
 use Rattle.sqlite_tied.specs.Compute.{everything}
 use Rattle.sqlite_typing.specs.Types.{accepts_terms, accepts_program}
-use Rattle.sqlite_resolve.specs.declared.compiled.Compiled.{Compiled}
-use Rattle.sqlite_resolve.specs.declared.error.CompileError.{CompileError}
 use Rattle.sqlite_schema.specs.Rules.{passes, Keeps, Refers, table_reals}
 use Rattle.sqlite_schema.specs.declared.schema.Among.TheVariants as among
 use Rattle.sqlite_schema.specs.declared.schema.Constraint.TheVariants.{Datatype, NotNull, Check, PrimaryKey, Unique, ForeignKey}
@@ -52,27 +47,15 @@ use Rattle.sqlite_rules.specs.Action.{Leads, Writes}
 use Rattle.sqlite_rules.specs.declared.error.Refusal.{Refusal}
 use Rattle.sqlite_rules.specs.declared.error.Refusal.TheVariants.{Violates, Mismatch, NoRowid, BadReference, TooDeep}
 use Rattle.sqlite_trees.specs.View.{IsStorableRow}
-use Rattle.sqlite_trees.specs.declared.error.StoreError.{StoreError}
-use Rattle.sqlite_trees.specs.declared.error.StoreError.TheVariants.{OutOfMemory, Io, Corrupt, Full, Broken, Unstorable}
 use Rattle.sqlite_value.proofs.OrderLemmas.{value_cmp-Int}
 use Rattle.sqlite_keyed.proofs.KeyedLemmas.{Less-from_lt}
 use Rattle.sqlite_log.specs.Table.{log_table, log_schema, insert_text, select_text, values_of, shown_from, projected}
 use Rattle.sqlite_log.specs.Held.{Holds, reason_of}
+use Rattle.sqlite_log.proofs.Failing.{failed, is_statement, names_of, no_control, plain_mode, stops, tail_of, true_or_false}
 use Rattle.sqlite_log.proofs.Texts.{terms, insert_command, insert_is, insert_plain, query, select_command, select_is, select_plain}
 use Rattle.sqlite_log.proofs.Rows.{source_is, cast_is, next, first_rowid, others}
 
-true_or_false : {A : Type 0} → ◌≡◌ {A = Bool} true false → A
-true_or_false e = absurd cc
-
 -- ---- the texts are statements, and as many values are given as they ask for
-
-tail_of : Result Compiled CompileError → ℕ
-tail_of (Ok c) = c.tail
-tail_of (Err e) = 0
-
-names_of : Result Compiled CompileError → ℕ
-names_of (Ok c) = length c.names
-names_of (Err e) = 0
 
 insert_whole : (nat_le (length insert_text) (tail_of (understood log_schema insert_text)) ≡ true) × (names_of (understood log_schema insert_text) ≡ 6)
 unfolding understood everything tail_of names_of
@@ -89,33 +72,6 @@ six (Stored origin number user text) = refl
 six (Local user text) = refl
 six (Read letter) = refl
 six (Killed letter) = refl
-
-is_statement : (s : State) (sql : List ℕ) (params : Row) (e : Error) → s.now.schema ≡ log_schema → IsPlain (understood log_schema sql)
-    → nat_le (length sql) (tail_of (understood log_schema sql)) ≡ true → length params ≡ names_of (understood log_schema sql) → ¬ IsNoStatement s sql params e
-unfolding tail_of names_of
-is_statement s sql params e has plain whole given (inl fault) = subst IsPlain (sym (ap (λ s. understood s sql) has) ∙ fault.1) plain
-is_statement s sql params e has plain whole given (inr it) =
-    let known : understood log_schema sql ≡ Ok it.0 = sym (ap (λ s. understood s sql) has) ∙ it.1 in
-    elim it.2 [
-      | inl long ↦ long.0 (leb-true (length sql) it.0.tail (sym (ap (λ r. nat_le (length sql) (tail_of r)) known) ∙ whole))
-      | inr rest ↦ elim rest [
-        | inl count ↦ count.0 (given ∙ ap names_of known)
-        | inr clock ↦ clock.0 (subst IsPlain known plain).1
-      ]
-    ]
-
--- ---- the store has failed
-
-failed : (old new : State) (too_big : Type 0) (kept : List Record) (e : Error) → Holds old kept → ¬ too_big → Fails old new too_big e → logs.HasCause old.faults new.faults kept (reason_of e)
-failed old new too_big kept e h never f = subst (λ x. logs.HasCause old.faults new.faults kept (reason_of x)) (sym f.1) (told f.0 f.2)
-  where
-    told : (cause : StoreError) → states.HasCause old new too_big cause → logs.HasCause old.faults new.faults kept (reason_of (store_error cause))
-    told OutOfMemory x = tt
-    told Io more = more
-    told Corrupt more = more
-    told Full more = more
-    told Broken shut = true_or_false (sym h.is_open ∙ shut)
-    told Unstorable big = absurd (never big)
 
 -- ---- what a row is put in as
 
@@ -241,17 +197,10 @@ refused db kept e has TooDeep h = absurd h
 
 -- ---- the insert
 
-abbrev plain_mode : Mode
-plain_mode = record { keys = Enforced; in_doubt = false; may_wait = false }
-
 -- how it may stop
 IsStop : List Record → Option Error → Type 0
 IsStop kept None = ⊥
 IsStop kept (Some error) = (error ≡ SqliteFailure code.NoRowid) × (2 ^ 63 - 1 ≤ length kept)
-
-stops : {A E R : Type 0} {x : E} {Stops : E → Type 0} → ((stop : E) × Stops stop × ◌≡◌ {A = Result A E} (Err x) (Err stop)) ⊎ R → Stops x ⊎ R
-stops {x = x} {Stops = Stops} (inl s) = (let same : x ≡ s.0 = cc in inl (subst Stops (sym same) s.1))
-stops (inr r) = inr r
 
 accepted : (e : Record) → accepts_terms terms (values_of e ++ []) ≡ true
 accepted (Posted number user dest text) = refl
@@ -328,20 +277,13 @@ never : (kept : List Record) → ¬ IsStop kept None
 unfolding IsStop
 never kept h = h
 
-misplaced_insert : (s : State) (command : Command) (error : Error) → command ≡ insert_command → ¬ IsMisplaced s command error
-misplaced_insert s command error is (inl states) = elim states.1 [
-  | inl begin ↦ (let e = sym is ∙ begin.0 in cc)
-  | inr ends ↦ elim ends.0 [ inl commit ↦ (let e = sym is ∙ commit in cc) | inr back ↦ (let e = sym is ∙ back in cc) ]
-]
-misplaced_insert s command error is (inr name) = elim name.2 [ inl release ↦ (let e = sym is ∙ release in cc) | inr back ↦ (let e = sym is ∙ back in cc) ]
-
 -- an insert into a log that fails
 pub insert_fails : (old new : State) (kept : List Record) (e : Record) (error : Error) → IsWhole e → Holds old kept → Executes insert_text (values_of e) old new (Err error)
     → logs.HasCause old.faults new.faults kept (reason_of error)
 unfolding ExecutesIn IsNotRun
 insert_fails old new kept e error whole h (inl (inl none)) =
-    absurd (is_statement old insert_text (values_of e) error h.schema insert_plain insert_whole.0 (six e ∙ sym insert_whole.1) none.0)
-insert_fails old new kept e error whole h (inl (inr fails)) = failed old new ⊥ kept error h (λ x. x) fails
+    absurd (is_statement log_schema old insert_text (values_of e) error h.schema insert_plain insert_whole.0 (six e ∙ sym insert_whole.1) none.0)
+insert_fails old new kept e error whole h (inl (inr fails)) = failed old new ⊥ kept error h.is_open (λ x. x) fails
 insert_fails old new kept e error whole h (inr it) =
     let known = sym it.1.is ∙ ap (λ s. understood s insert_text) h.schema in
     let bare = subst IsPlain (sym known) insert_plain in
@@ -352,10 +294,10 @@ insert_fails old new kept e error whole h (inr it) =
     subst (λ l. Does l (mode_of old) (values_of e) old.now text None insert_command (Err stop)) h.unlimited does in
     elim runs [
       | inl kept_out ↦ elim kept_out.0 [
-        | inl misplaced ↦ absurd (misplaced_insert old insert_command error refl misplaced)
+        | inl misplaced ↦ absurd (no_control old insert_command error (λ e. cc) (λ e. cc) (λ e. cc) (λ name e. cc) (λ name e. cc) misplaced)
         | inr does ↦ reason_at old new kept error (insert_stops kept e whole old.now text (Some error) h.schema h.stands.rows (limited (Some error) does.1))
       ]
-      | inr fails ↦ failed old new (Does old.step_limit (mode_of old) (values_of e) old.now text None insert_command (Err None)) kept error h
+      | inr fails ↦ failed old new (Does old.step_limit (mode_of old) (values_of e) old.now text None insert_command (Err None)) kept error h.is_open
           (λ big. never kept (insert_stops kept e whole old.now text None h.schema h.stands.rows (limited None big))) fails
     ]
 
@@ -371,8 +313,8 @@ select_runs old db error has (inr (inr steps)) = true_or_false (sym steps.1)
 -- a query of a log that fails
 pub select_fails : (old new : State) (kept : List Record) (error : Error) → Holds old kept → FailsToQuery select_text [] old new error → logs.HasCause old.faults new.faults kept (reason_of error)
 unfolding FailsToQuery IsNotRun
-select_fails old new kept error h (inl (inl none)) = absurd (is_statement old select_text [] error h.schema select_plain select_whole.0 (sym select_whole.1) none.0)
-select_fails old new kept error h (inl (inr fails)) = failed old new ⊥ kept error h (λ x. x) fails
+select_fails old new kept error h (inl (inl none)) = absurd (is_statement log_schema old select_text [] error h.schema select_plain select_whole.0 (sym select_whole.1) none.0)
+select_fails old new kept error h (inl (inr fails)) = failed old new ⊥ kept error h.is_open (λ x. x) fails
 select_fails old new kept error h (inr it) =
     let known = sym it.1.is ∙ ap (λ s. understood s select_text) h.schema in
     let bare = subst IsPlain (sym known) select_plain in

@@ -42,7 +42,8 @@ reason_of _ = Disk
 -- the insert ran with these values, or failed
 abbrev pub Inserted : Row → State → State → Result (Unit {0}) LogFailed → Type 0
 Inserted values old new (Ok _) = (count : ℕ) × Executes insert_text values old new (Ok count)
-Inserted values old new (Err why) = (error : Error) × (why ≡ reason_of error) × Executes insert_text values old new (Err error)
+Inserted values old new (Err why) =
+    (error : Error) × (why ≡ reason_of error) × Executes insert_text values old new (Err error)
 
 -- so of a record
 abbrev pub Wrote : Record → State → State → Result (Unit {0}) LogFailed → Type 0

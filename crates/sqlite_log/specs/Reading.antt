@@ -109,5 +109,6 @@ abbrev pub IsSpoiltAt : List Row → LogFailed → Type 0
 IsSpoiltAt rows Memory = Unit {0}
 IsSpoiltAt rows Disk = ⊥
 IsSpoiltAt rows Full = ⊥
-IsSpoiltAt rows (Spoilt place) = (at : ℕ) × (place ≡ at + 1) × (at < length rows) × (record_at place (slice_index_or rows at []) ≡ None)
+IsSpoiltAt rows (Spoilt place) =
+    (at : ℕ) × (place ≡ at + 1) × (at < length rows) × (record_at place (slice_index_or rows at []) ≡ None)
     × ((rs : List Record) × AreReadAs 1 (take at rows) rs)

@@ -18,8 +18,8 @@ pub fn next_open<D: Disk + Drop, E: Disk + Drop>(
     after: &Connection<FileStore<E>>,
 ) -> FileStore<D>
     ensures { IsClean (view result) → (kept : List Kept) (left : Image) → Holds (file_state before.conn) kept →
-        (store_state before.conn.store).may_leave left
-        → IsOpened after.now → after.now.step_limit ≡ None → FindsIn left (file_state after.now) → Holds (file_state after.now) kept }
+        (store_state before.conn.store).may_leave left → IsOpened after.now → after.now.step_limit ≡ None →
+        FindsIn left (file_state after.now) → Holds (file_state after.now) kept }
 {
     before.conn.into_store()
 }

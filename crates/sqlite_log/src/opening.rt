@@ -28,8 +28,9 @@ pub struct Opened<S: Alter + Drop> {
     pub is_new: bool,
 }
 
-/// The log of a database, and its records. Where nothing stands in the database, the table is made. A database that has anything else
-/// than a log is refused, and so is one in which a row isn't read as a record or hasn't the number of its place.
+/// The log of a database, and its records. Where nothing stands in the database, the table is made. A database that has
+/// anything else than a log is refused, and so is one in which a row isn't read as a record or hasn't the number of its
+/// place.
 pub fn over<S: Alter + Drop>(
     alloc: Global,
     mut conn: Connection<S>,
@@ -45,9 +46,12 @@ pub fn over<S: Alter + Drop>(
     // Of any other database that is opened, all rows were read as records with their numbers.
     ensures read { IfOk result (λ opened. HasCleanDisk (state S.Store opened.log.conn) → opened.is_new ≡ false →
         IsRead (state S.Store conn) (state S.Store opened.log.conn) opened.records.items) }
-    ensures refused { IfErr result (λ e. HasCleanDisk (state S.Store e.1) → (kept : List Kept) → Holds (state S.Store conn) kept →
-        HasOpenCause (state S.Store conn) (state S.Store e.1) kept e.0) }
-    ensures honest { IfOk result (λ opened. HasCleanDisk (state S.Store opened.log.conn) → HasCleanDisk (state S.Store conn)) }
+    ensures refused { IfErr result (λ e. HasCleanDisk (state S.Store e.1) → (kept : List Kept) →
+        Holds (state S.Store conn) kept → HasOpenCause (state S.Store conn) (state S.Store e.1) kept e.0) }
+    ensures unmade { IfErr result (λ e. HasCleanDisk (state S.Store e.1) → IsTrue (state S.Store conn).is_open →
+        (state S.Store conn).now.schema ≡ no_schema → HasOpenCause (state S.Store conn) (state S.Store e.1) [] e.0) }
+    ensures honest { IfOk result (λ opened.
+        HasCleanDisk (state S.Store opened.log.conn) → HasCleanDisk (state S.Store conn)) }
 {
     if is_blank(conn.schema()) {
         return over_nothing(alloc, conn);
@@ -80,9 +84,10 @@ fn over_nothing<S: Alter + Drop>(
     ensures blank { IfOk result (λ opened. IsTrue opened.is_new) }
     ensures fresh { IfOk result (λ opened. HasCleanDisk (state S.Store opened.log.conn) →
         HasOpened (state S.Store opened.log.conn) [] opened.records.items) }
-    ensures honest { IfOk result (λ opened. HasCleanDisk (state S.Store opened.log.conn) → HasCleanDisk (state S.Store conn)) }
-    ensures refused { IfErr result (λ e. HasCleanDisk (state S.Store e.1) → (kept : List Kept) → Holds (state S.Store conn) kept →
-        HasOpenCause (state S.Store conn) (state S.Store e.1) kept e.0) }
+    ensures honest { IfOk result (λ opened.
+        HasCleanDisk (state S.Store opened.log.conn) → HasCleanDisk (state S.Store conn)) }
+    ensures refused { IfErr result (λ e. HasCleanDisk (state S.Store e.1) → IsTrue (state S.Store conn).is_open →
+        HasOpenCause (state S.Store conn) (state S.Store e.1) [] e.0) }
 {
     match create(&mut conn) {
         Ok(()) => Ok(Opened {
@@ -103,8 +108,8 @@ pub fn in_memory(alloc: Global) -> Result<SqliteLog<MemStore>, LogFailed>
     Ok(SqliteLog { conn })
 }
 
-/// The log in a file, which is made where there is none, and its records. Pass `Wary`: then nothing is supposed of a write that a power
-/// cut has torn.
+/// The log in a file, which is made where there is none, and its records. Pass `Wary`: then nothing is supposed of a write
+/// that a power cut has torn.
 pub fn on_disk<S: Start>(
     rt: &HostRuntime,
     path: &str,
@@ -112,7 +117,8 @@ pub fn on_disk<S: Start>(
 ) -> Result<Opened<FileStore<FileFrom<S>>>, OpenFailed>
     requires { S.Start.is_mixing ≡ false }
     ensures found { IfOk result (λ opened. HasCleanDisk (file_state opened.log.conn) → (db : _) (kept : List Kept) →
-        HoldsDatabase (image_at S.Start) db → StandsFor db kept → HasOpened (file_state opened.log.conn) kept opened.records.items) }
+        HoldsDatabase (image_at S.Start) db → StandsFor db kept →
+        HasOpened (file_state opened.log.conn) kept opened.records.items) }
     ensures fresh { IfOk result (λ opened. HasCleanDisk (file_state opened.log.conn) → IsTrue opened.is_new →
         HasOpened (file_state opened.log.conn) [] opened.records.items) }
 {

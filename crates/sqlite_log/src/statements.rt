@@ -1,5 +1,6 @@
 //! The three statements on the table. Called by `writing`, `log` and `opening`.
-ghost use Rattle.std.specs.Prelude.{◌≡◌, false, None, [], OnOk, IfOk, IfErr};
+ghost use Rattle.std.specs.Prelude.{◌≡◌, false, None, [], OnOk, IfOk, IfErr, IsTrue};
+ghost use Rattle.mail_records.specs.Logs.{HasCause};
 ghost use Rattle.sqlite.specs.State.{HasCleanDisk, Survives, CommitsBy, CommitsShowing, Shown};
 ghost use Rattle.sqlite.specs.Held.{state};
 ghost use Rattle.sqlite.specs.Values.{bound};
@@ -27,6 +28,8 @@ pub(crate) fn create<S: Alter>(conn: &mut Connection<S>) -> Result<(), LogFailed
     requires mode { conn.old.in_transaction ≡ false }
     requires unlimited { conn.old.step_limit ≡ None }
     ensures made { HasCleanDisk (state S.Store conn.new) → OnOk result (Holds (state S.Store conn.new) []) }
+    ensures cause { HasCleanDisk (state S.Store conn.new) → IsTrue (state S.Store conn.old).is_open →
+        IfErr result (HasCause (state S.Store conn.old).faults (state S.Store conn.new).faults []) }
     ensures honest { HasCleanDisk (state S.Store conn.new) → HasCleanDisk (state S.Store conn.old) }
 {
     let done = conn.execute(
@@ -46,8 +49,8 @@ pub(crate) fn insert<S: Alter>(
 ) -> Result<(), LogFailed>
     ensures ran { HasCleanDisk (state S.Store conn.new) →
         Inserted (bound values.now) (state S.Store conn.old) (state S.Store conn.new) result }
-    ensures survives { Survives (state S.Store conn.old) (state S.Store conn.new) (CommitsBy insert_text (bound values.now)
-        (state S.Store conn.old)) }
+    ensures survives { Survives (state S.Store conn.old) (state S.Store conn.new)
+        (CommitsBy insert_text (bound values.now) (state S.Store conn.old)) }
 {
     let done = conn.execute(
         "INSERT INTO record (kind, origin, number, user, dest, text) VALUES (?1, ?2, ?3, ?4, ?5, ?6)",
@@ -63,9 +66,11 @@ pub(crate) fn insert<S: Alter>(
 pub(crate) fn select<S: Alter>(conn: &mut Connection<S>) -> Result<Vec<Row>, LogFailed>
     ensures shown { HasCleanDisk (state S.Store conn.new) →
         IfOk result (λ rows. Shown select_text [] (state S.Store conn.old) (state S.Store conn.new) rows.items) }
-    ensures err { HasCleanDisk (state S.Store conn.new) → IfErr result (FailsToSelect (state S.Store conn.old) (state S.Store conn.new)) }
+    ensures err { HasCleanDisk (state S.Store conn.new) →
+        IfErr result (FailsToSelect (state S.Store conn.old) (state S.Store conn.new)) }
     ensures mode { conn.old.in_transaction ≡ false → conn.new.in_transaction ≡ false }
-    ensures survives { Survives (state S.Store conn.old) (state S.Store conn.new) (CommitsShowing select_text [] (state S.Store conn.old)) }
+    ensures survives { Survives (state S.Store conn.old) (state S.Store conn.new)
+        (CommitsShowing select_text [] (state S.Store conn.old)) }
 {
     let done = conn.query_all(
         "SELECT seq, kind, origin, number, user, dest, text FROM record ORDER BY seq",

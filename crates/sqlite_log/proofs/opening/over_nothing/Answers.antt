@@ -1,9 +1,8 @@
-use Rattle.std.proofs.Common.{rules, sym, ◌∙◌}
-use Rattle.sqlite_log.proofs.Tables.{no_log}
+use Rattle.std.proofs.Common.{rules}
 use Rattle.sqlite_log.proofs.opening.over_nothing.Goals as goal
 
 pub returns-in-Ok-clause-fresh : goal.returns-in-Ok-clause-fresh
 returns-in-Ok-clause-fresh g c clean = record { holds = c.in-Ok.ensures.made clean; tells = search rules }
 
 pub returns-in-Err-clause-refused : goal.returns-in-Err-clause-refused
-returns-in-Err-clause-refused g c clean kept held = absurd (no_log (sym held.schema ∙ c.requires.schema))
+returns-in-Err-clause-refused g c clean is_open = c.in-Err.ensures.cause clean is_open
