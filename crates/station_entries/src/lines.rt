@@ -54,7 +54,9 @@ fn link_line(
     let peer = peer.show();
     let peer = peer.as_str();
     let what = link_word(notice);
-    format!(in alloc; "{{\"at\":{at},\"member\":\"{member}\",\"link\":\"{peer}\",\"what\":\"{what}\"}}\n")
+    format!(in alloc;
+        "{{\"at\":{at},\"member\":\"{member}\",\"link\":\"{peer}\",\"what\":\"{what}\"}}\n"
+    )
 }
 
 fn circuit_line(
