@@ -1,0 +1,4 @@
+pub mod Places
+pub mod Slices
+pub mod Lent
+pub mod Bests

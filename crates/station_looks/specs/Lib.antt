@@ -1,0 +1,4 @@
+pub mod Abouts
+pub mod Nodes
+pub mod Naming
+pub mod Ports
