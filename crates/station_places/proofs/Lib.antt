@@ -1,0 +1,9 @@
+pub mod Asking
+pub mod Counting
+pub mod Dropping
+pub mod Emptied
+pub mod Pieces
+pub mod Sending
+pub mod Steps
+pub mod Taken
+pub mod Written
