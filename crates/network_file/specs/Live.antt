@@ -1,19 +1,16 @@
 -- A node that runs alone, as the words of a command declare it: by the rules of the lines of a file. Own profile.
-use Rattle.std.specs.Prelude.{ℕ, ◌+◌, List, [], ◌∷◌, ◌++◌, length, take, drop, position, Option, Some, None, Result, Ok, Err, ◌==◌, is_none, nat_lt, nat_eq, if◌then◌else◌, codes}
+use Rattle.std.specs.Prelude.{ℕ, List, [], ◌∷◌, ◌++◌, length, position, Option, Some, None, Result, Ok, Err, ◌==◌, is_none, nat_lt, nat_eq, if◌then◌else◌, codes}
 use Rattle.std.specs.Cmp.Lexicographic.{pointwise}
 use Rattle.ax_address.specs.Callsign.{Callsign}
 use Rattle.ax_address.specs.declared.alias.Alias.{Alias}
 use Rattle.ax_address.specs.Results.{◌>>=◌}
+use Rattle.text_lines.specs.Lines.{parted}
 use Rattle.network_file.specs.declared.what.What.{What}
 use Rattle.network_file.specs.declared.what.What.TheVariants as whats
 use Rattle.network_file.specs.declared.plan.live.LiveNode.{LiveNode}
 use Rattle.network_file.specs.Keys.{key_at, least_of, most_of, takes, set_to}
 use Rattle.network_file.specs.Places.{needs, number_at, value_at, call_at, new_peer_at, alias_at}
 use Rattle.network_file.specs.Lines.Declaring.{calls_at}
-
-abbrev pub parted : Option ℕ → List ℕ → Option (List ℕ × List ℕ)
-parted (Some at) text = Some (take at text, drop (at + 1) text)
-parted None text = None
 
 -- what stands before and behind the first such character
 abbrev pub split_once : ℕ → List ℕ → Option (List ℕ × List ℕ)

@@ -1,5 +1,5 @@
 -- Doing what the lines at the prompt ask for keeps a node fine.
-use Rattle.std.proofs.Common.{◌≡◌, ◌≤◌, ◌<◌, ◌+◌, ◌∙◌, ℕ, suc, refl, sym, ap, subst, arith, length, List, [], ◌∷◌, slice_get}
+use Rattle.std.proofs.Common.{◌≡◌, ◌≤◌, ◌<◌, ◌+◌, ◌∙◌, ℕ, refl, sym, ap, subst, arith, length, List, [], ◌∷◌, slice_get}
 use Rattle.std.specs.Prelude.{Bool, true, false, nat_eq, if◌then◌else◌, Option, Some, None}
 use Rattle.std.proofs.lemmas.Bool.Decides.{nat_tests}
 use Rattle.std.proofs.Math.Bool.{and-false}
@@ -24,6 +24,7 @@ use Rattle.node_model.specs.Turns.{Turn, done, idle}
 use Rattle.node_model.specs.Users as users
 use Rattle.node_model.specs.Users.{at_session, session_at}
 use Rattle.node_model.specs.Asking.{view}
+use Rattle.text_lines.proofs.UserLines.{behind_most}
 use Rattle.node_core.proofs.Fine.{Fine, close_fine, placed_said, said, session_fine}
 use Rattle.node_core.proofs.Given.{Given, given_bye, given_cut, given_dropped}
 use Rattle.node_core.proofs.Served.{IsNamed, at_named}
@@ -105,22 +106,6 @@ acting now nth (action.Show sight) m y named f e i = said now nth (texts.view_te
 acting now nth (action.Bye text) m y named f e i = said_bye now nth text.items m y f e i
 acting now nth (action.Connect dest) m y named f e i = tried now nth dest (connect_answer (next_hop m) dest m.set.set) m y named refl f e i
 acting now nth action.Nothing m y named f e i = f
-
-without_lf_most : (text : List ℕ) → length (asking.without_lf text) ≤ length text
-without_lf_most [] = omega arith
-without_lf_most (b ∷ bs) = by (nat_eq b 10)
-  where
-    by : (c : Bool) → length (if c then bs else b ∷ bs) ≤ suc (length bs)
-    by true = omega arith
-    by false = omega arith
-
-behind_most : (text : List ℕ) → length (asking.behind_line text) ≤ length text
-behind_most [] = omega arith
-behind_most (b ∷ bs) = by (nat_eq b 13) (behind_most bs)
-  where
-    by : (c : Bool) → length (asking.behind_line bs) ≤ length bs → length (if c then asking.without_lf bs else asking.behind_line bs) ≤ suc (length bs)
-    by true rest = let l = without_lf_most bs in omega (arith, l)
-    by false rest = omega (arith, rest)
 
 line_done : ReadsCallTexts → (now nth : ℕ) (m : State) (y : Session) → Fine m → session_at nth m ≡ Some y → Idle y → Fine (asking.do_line now nth m)
 line_done reads now nth m y f e i =

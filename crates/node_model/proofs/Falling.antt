@@ -27,6 +27,7 @@ use Rattle.node_model.specs.States.{State, next_hop}
 use Rattle.node_model.specs.Turns.{Turn, or_else}
 use Rattle.node_model.specs.Users as users
 use Rattle.node_model.specs.Users.{at_session, session_at}
+use Rattle.text_lines.proofs.UserLines.{behind_most, without_lf_most}
 use Rattle.node_model.proofs.Texting.{closed_most}
 use Rattle.node_model.proofs.Resting.{pumped_nothing}
 use Rattle.node_model.proofs.Working.{greeted_same}
@@ -89,22 +90,6 @@ module _ (offers : OffersLeave) (takes : TakesLower) (less : TellsLess) where
   acting now nth (action.Bye text) n = let x = byes now nth text.items n in record { units = x.units; sessions = omega (arith, x.sessions) }
   acting now nth (action.Connect dest) n = tried now nth dest (connect_answer (next_hop n) dest n.set.set) n
   acting now nth action.Nothing n = record { units = omega arith; sessions = omega arith }
-
-  without_lf_most : (text : List ℕ) → length (asking.without_lf text) ≤ length text
-  without_lf_most [] = omega arith
-  without_lf_most (b ∷ bs) = by (nat_eq b 10)
-    where
-      by : (c : Bool) → length (if c then bs else b ∷ bs) ≤ suc (length bs)
-      by true = omega arith
-      by false = omega arith
-
-  pub behind_most : (text : List ℕ) → length (asking.behind_line text) ≤ length text
-  behind_most [] = omega arith
-  behind_most (b ∷ bs) = by (nat_eq b 13) (behind_most bs)
-    where
-      by : (c : Bool) → length (asking.behind_line bs) ≤ length bs → length (if c then asking.without_lf bs else asking.behind_line bs) ≤ suc (length bs)
-      by true rest = let l = without_lf_most bs in omega (arith, l)
-      by false rest = omega (arith, rest)
 
   behind_less : (text : List ℕ) → 0 < length text → length (asking.behind_line text) < length text
   behind_less [] some = absurd (omega (arith, some))

@@ -1,6 +1,7 @@
 -- What a user sees of a node, and the lines of a user at the prompt. Own profile.
-use Rattle.std.specs.Prelude.{ℕ, Bool, true, false, ◌==◌, if◌then◌else◌, List, [], ◌∷◌, Option, Some, None, Result, Ok, Err, ◌-◌, length, take, filter, flat_map}
+use Rattle.std.specs.Prelude.{ℕ, Bool, true, false, if◌then◌else◌, List, [], Option, Some, None, Result, Ok, Err, ◌-◌, length, take, filter, flat_map}
 use Rattle.std.specs.Option.{option_to_list}
+pub use Rattle.text_lines.specs.UserLines.{first_line, without_lf, behind_line}
 use Rattle.ax_address.specs.Callsign.{Callsign, same_call}
 use Rattle.circuit_table.specs.declared.refusal.ConnectRefusal.{ConnectRefusal}
 use Rattle.circuit_table.specs.declared.refusal.ConnectRefusal.TheVariants as refusal
@@ -56,21 +57,7 @@ view (sight.RoutesTo dest) n = views.RoutesTo dest (record { items = routes_to n
 view sight.Routes n = views.Routes (record { items = take 64 (filter is_direct (flat_map (routes_to n) (destinations n))) })
 view sight.Users n = views.Users (record { items = partners n.set.set.ends })
 
--- ---- lines of a text
-
--- a line ends before the first CR, or with its text
-abbrev pub first_line : List ℕ → List ℕ
-first_line [] = []
-first_line (b ∷ bs) = if b == 13 then [] else b ∷ first_line bs
-
--- an LF right behind that CR is dropped
-abbrev pub without_lf : List ℕ → List ℕ
-without_lf [] = []
-without_lf (b ∷ bs) = if b == 10 then bs else b ∷ bs
-
-abbrev pub behind_line : List ℕ → List ℕ
-behind_line [] = []
-behind_line (b ∷ bs) = if b == 13 then without_lf bs else behind_line bs
+-- ---- what is left of a text behind its first line
 
 abbrev pub cut_line : Session → Session
 cut_line s = record s { rest = behind_line s.rest }

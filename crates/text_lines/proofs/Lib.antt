@@ -1,3 +1,4 @@
 pub mod Cuts
 pub mod FirstWords
+pub mod UserLines
 pub mod Values

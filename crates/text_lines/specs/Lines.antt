@@ -1,5 +1,5 @@
 -- Lines, their words, and the numbers that words spell. Own profile.
-use Rattle.std.specs.Prelude.{ℕ, List, length, Bool, ◌&&◌, ◌||◌, ◌==◌, nat_le, slice_index, [], ◌∷◌, filter, map, Option, Some, None, not, if◌then◌else◌, ◌+◌, ◌-◌, ◌*◌}
+use Rattle.std.specs.Prelude.{ℕ, List, length, Bool, ◌&&◌, ◌||◌, ◌==◌, nat_le, slice_index, [], ◌∷◌, filter, map, Option, Some, None, not, take, drop, if◌then◌else◌, ◌+◌, ◌-◌, ◌*◌}
 use Rattle.std.specs.List.{list_all, slice_split}
 use Rattle.std.specs.Borrow.{Bor}
 
@@ -53,6 +53,11 @@ past_word line = after_word (after_spaces line)
 abbrev pub after_space : List ℕ → Option (List ℕ)
 after_space [] = None
 after_space (space ∷ text) = Some text
+
+-- what stands before and behind the mark at that place, if there is one
+abbrev pub parted : Option ℕ → List ℕ → Option (List ℕ × List ℕ)
+parted (Some at) text = Some (take at text, drop (at + 1) text)
+parted None text = None
 
 -- The numbers that words spell. Own profile.
 

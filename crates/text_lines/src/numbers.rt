@@ -1,9 +1,11 @@
-//! The numbers that words spell: decimal digits without a leading zero. Own profile. Called by `link_life` and `network_file`.
+//! The numbers that words spell: decimal digits without a leading zero. Own profile. Called by `link_life`,
+//! `network_file` and `tool_cmd`.
 ghost use Rattle.std.specs.Prelude.{◌≡◌, nat_le, Some, None, if◌then◌else◌};
 ghost use Rattle.std.specs.List.{list_all};
 ghost use Rattle.text_lines.specs.Lines as numbers;
 
-fn is_digit(b: u8) -> bool
+/// A decimal digit.
+pub fn is_digit(b: u8) -> bool
     ensures { result ≡ numbers.is_digit b }
 {
     b >= 48 && b <= 57

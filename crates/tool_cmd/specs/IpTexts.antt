@@ -1,13 +1,11 @@
 -- Addresses and routes as texts: A.B.C.D, and A.B.C.D/L,A.B.C.D. (RFC 791, section 3.2, as numbers in decimal; own profile.)
-use Rattle.std.specs.Prelude.{ℕ, ◌≡◌, ◌+◌, ◌-◌, ◌*◌, List, [], ◌∷◌, take, drop, position, Bool, ◌&&◌, ◌==◌, nat_le, not, Option, Some, None, MatchOption, if◌then◌else◌}
+use Rattle.std.specs.Prelude.{ℕ, ◌≡◌, ◌+◌, ◌-◌, ◌*◌, List, [], ◌∷◌, position, ◌&&◌, ◌==◌, nat_le, not, Option, Some, None, MatchOption, if◌then◌else◌}
+use Rattle.text_lines.specs.Lines.{is_digit, parted}
 use Rattle.tool_cmd.specs.declared.ip.texts.RouteText.{RouteText}
 
 -- a call answers with what there is, as `view` shows it, or with none where there is none
 abbrev pub Gives : {A X : Type 0} → Option X → Option A → (X → A) → Type 0
 Gives result answer view = MatchOption result (answer ≡ None) (λ x. answer ≡ Some (view x))
-
-abbrev pub is_digit : ℕ → Bool
-is_digit b = nat_le 48 b && nat_le b 57
 
 abbrev pub small : ℕ → Option ℕ
 small n = if nat_le n 255 then Some n else None
@@ -25,10 +23,6 @@ infixl 10 ◌>>=◌
 abbrev pub ◌>>=◌ : {A B : Type 0} → Option A → (A → Option B) → Option B
 (Some x) >>= f = f x
 None >>= f = None
-
-abbrev pub parted : Option ℕ → List ℕ → Option (List ℕ × List ℕ)
-parted (Some at) text = Some (take at text, drop (at + 1) text)
-parted None text = None
 
 -- what stands before and behind the first such character
 abbrev pub parts_at : ℕ → List ℕ → Option (List ℕ × List ℕ)

@@ -1,5 +1,5 @@
 //! A node that runs alone, as the words of a command declare it. Called by `node_cmd`.
-ghost use Rattle.std.specs.Prelude.{◌≡◌, ◌==◌, ◌≤◌, ◌<◌, ◌++◌, ◌∷◌, length, position, map, string_bytes, Some, None, Ok, Err, IfSome, MatchOption, MatchResult};
+ghost use Rattle.std.specs.Prelude.{◌≡◌, ◌≤◌, ◌++◌, ◌∷◌, length, map, string_bytes, Some, None, Ok, Err, MatchOption, MatchResult};
 ghost use Rattle.network_file.specs.Live as live;
 ghost use Rattle.text_lines.specs.Lines.{texts};
 
@@ -14,6 +14,7 @@ use crate::plan::vias::Via;
 use crate::what::What;
 use arrayvec::ArrayVec;
 use ax_address::{Alias, Call};
+use text_lines::place_of;
 
 /// A node that runs alone: the one node of a network of version 3, which keeps no mail.
 #[derive(Debug, Drop)]
@@ -214,11 +215,4 @@ fn split_once(mark: u8, text: &[u8]) -> Option<(&[u8], &[u8])>
         Some(at) => Some((&text[..at], &text[at + 1..])),
         None => None,
     }
-}
-
-fn place_of(mark: u8, text: &[u8]) -> Option<usize>
-    ensures place { result ≡ position (λ b. b == mark) text.now }
-    ensures within { IfSome result (λ at. at < length text.now) }
-{
-    text.iter().position(|b| *b == mark)
 }

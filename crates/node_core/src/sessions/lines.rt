@@ -1,7 +1,8 @@
 //! The lines of a text. Called by `session`.
-ghost use Rattle.std.specs.Prelude.{◌≡◌, ◌≤◌, ◌<◌, ◌==◌, IfSome, drop, length};
-ghost use Rattle.std.specs.List.{position};
+ghost use Rattle.std.specs.Prelude.{◌≡◌, ◌≤◌, drop, length};
 ghost use Rattle.node_model.specs.Asking as asking;
+
+use text_lines::place_of;
 
 /// The first line of a text: up to its first CR, or all of it.
 pub fn first_line(text: &[u8]) -> &[u8]
@@ -32,16 +33,8 @@ fn line_end(text: &[u8]) -> usize
     ensures value { result ≡ length (asking.first_line text.now) }
     ensures most { result ≤ length text.now }
 {
-    match carriage_return(text) {
+    match place_of(b'\r', text) {
         Some(end) => end,
         None => text.len(),
     }
-}
-
-/// The place of the first CR.
-fn carriage_return(text: &[u8]) -> Option<usize>
-    ensures place { result ≡ position (λ b. b == 13) text.now }
-    ensures within { IfSome result (λ at. at < length text.now) }
-{
-    text.iter().position(|b| *b == b'\r')
 }

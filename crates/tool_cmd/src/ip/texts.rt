@@ -1,6 +1,9 @@
 //! Addresses and routes as texts. Called by `words`.
-ghost use Rattle.std.specs.Prelude.{◌≡◌, ◌<◌, ◌≤◌, ◌+◌, ◌^◌, ◌==◌, length, position, IfSome, true};
+ghost use Rattle.std.specs.Prelude.{◌≡◌, ◌≤◌, ◌+◌, ◌^◌, true};
+ghost use Rattle.text_lines.specs.Lines as lines;
 ghost use Rattle.tool_cmd.specs.IpTexts as texts;
+
+use text_lines::{is_digit, place_of};
 
 /// What the text of a route gives.
 #[derive(Clone, Copy, Debug, PartialEq, Eq)]
@@ -48,13 +51,6 @@ fn parts_of(mark: u8, text: &[u8]) -> Option<(&[u8], &[u8])>
     }
 }
 
-fn place_of(mark: u8, text: &[u8]) -> Option<usize>
-    ensures place { result ≡ position (λ b. b == mark) text.now }
-    ensures within { IfSome result (λ at. at < length text.now) }
-{
-    text.iter().position(|b| *b == mark)
-}
-
 /// A decimal number from 0 to 255 without leading zeros.
 fn read_octet(text: &[u8]) -> Option<u8>
     ensures { result ≡ texts.octet_at text.now }
@@ -75,14 +71,8 @@ fn small(n: u32) -> Option<u8>
     if n <= 255 { Some(n as u8) } else { None }
 }
 
-fn is_digit(b: u8) -> bool
-    ensures { result ≡ texts.is_digit b }
-{
-    b >= b'0' && b <= b'9'
-}
-
 fn digit(b: u8) -> u8
-    requires { texts.is_digit b ≡ true }
+    requires { lines.is_digit b ≡ true }
     ensures value { result + 48 ≡ b }
     ensures small { result ≤ 9 }
 {

@@ -1,4 +1,4 @@
-use Rattle.node_core.proofs.FirstLine.{takes_first}
+use Rattle.text_lines.proofs.UserLines.{takes_first}
 use Rattle.node_core.proofs.sessions.lines.first_line.Goals as goal
 
 pub returns : goal.returns

@@ -1,4 +1,4 @@
-use Rattle.node_core.proofs.FirstLine.{ends_found, ends_nowhere}
+use Rattle.text_lines.proofs.UserLines.{ends_found, ends_nowhere}
 use Rattle.node_core.proofs.sessions.lines.line_end.Goals as goal
 
 pub returns-in-Some-clause-value : goal.returns-in-Some-clause-value

@@ -6,6 +6,7 @@ abbrev pub first_line : List ℕ → List ℕ
 first_line [] = []
 first_line (b ∷ bs) = if b == 13 then [] else b ∷ first_line bs
 
+-- an LF right behind that CR is dropped
 abbrev pub without_lf : List ℕ → List ℕ
 without_lf [] = []
 without_lf (b ∷ bs) = if b == 10 then bs else b ∷ bs
