@@ -2,7 +2,7 @@
 -- datagrams and requests (NET/ROM, Appendix B).
 use Rattle.std.specs.Prelude.{ℕ, ◌≡◌, ◌+◌, ◌*◌, ◌/◌, ◌%◌, ◌<◌, ◌≤◌, length, List, [], ◌∷◌, ◌++◌, map, take, drop, slice_get, slice_index, nat_le, Bool, ◌&&◌, ◌==◌, Option, Some, None, if◌then◌else◌, get_or, Result, Ok, Err}
 use Rattle.std.specs.List.{prefix_len}
-use Rattle.std.proofs.Common.{lit<}
+use Rattle.std.proofs.Common.{lit<, lit≤}
 use Rattle.std.proofs.Math.Nat.{mod-lt, le-pred_of_lt}
 use Rattle.ax_address.specs.declared.address.Address.{Address}
 use Rattle.ax_address.specs.declared.address_refusal.AddressRefusal.{AddressRefusal}
@@ -10,6 +10,10 @@ use Rattle.ax_address.specs.declared.address_refusal.AddressRefusal.TheVariants.
 use Rattle.ax_address.specs.Callsign.{IsCallsign, is_call_char, space, Callsign}
 
 -- Addresses: six characters, each shifted left by one, and an octet with the SSID. (AX.25 2.2, section 3.12.)
+
+-- the address of a call with this C or H bit, as it is written: both reserved bits are 1
+abbrev pub address_of : Callsign → Bool → Address
+address_of c bit7 = record { call = c; bit7 = bit7; reserved = 3; two_bits = lit≤ tt }
 
 -- the C or H bit, two reserved bits, the SSID, and the extension bit, which the last address has
 abbrev pub ssid_octet : Address → Bool → ℕ

@@ -9,6 +9,10 @@ use Rattle.ax_frame.specs.declared.control.Format.TheVariants.{Information, Supe
 abbrev pub IsLinkModulus : ℕ → Type 0
 IsLinkModulus size = (size ≡ 8) ⊎ (size ≡ 128)
 
+abbrev pub is_ui : Control → Bool
+is_ui (Ui pf) = true
+is_ui _ = false
+
 -- The table of the kinds: whether the field has both sequence numbers, one or none, and else its code, the
 -- octet with numbers and P/F bit 0.
 abbrev pub format_of : Control → Format

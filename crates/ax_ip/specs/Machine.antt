@@ -6,9 +6,8 @@ use Rattle.std.specs.List.{list_all, find}
 use Rattle.std.specs.Option.{option_map}
 use Rattle.ax_address.specs.Callsign.{Callsign, padded, same_call}
 use Rattle.ax_address.specs.declared.address.Address.{Address}
+use Rattle.ax_frame.specs.Controls.{is_ui}
 use Rattle.ax_frame.specs.Frames.{Frame}
-use Rattle.ax_frame.specs.declared.control.Control.{Control}
-use Rattle.ax_frame.specs.declared.control.Control.TheVariants.{Ui}
 use Rattle.ax_ip.specs.declared.arp.ArpRefusal.{ArpRefusal}
 use Rattle.ax_ip.specs.declared.packet.PacketRefusal.{PacketRefusal}
 use Rattle.ax_ip.specs.declared.content.Content.{Content}
@@ -60,10 +59,6 @@ onward h packet = with_header_sum h.header (slice_set packet 8 (h.ttl - 1))
 -- the call to which requests for an address go
 abbrev pub everyone : Callsign
 everyone = record { letters = padded (codes "QST"); ssid = 0 }
-
-abbrev pub is_ui : Control → Bool
-is_ui (Ui pf) = true
-is_ui _ = false
 
 abbrev pub all_repeated : List Address → Bool
 all_repeated path = list_all (λ (r : Address). r.bit7) path

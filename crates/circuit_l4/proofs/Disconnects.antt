@@ -75,14 +75,14 @@ more_infos : (g : Effect) (n many : ℕ) → NoRequest g.outs → NoRequest (g.o
 more_infos g n many none = both g.outs (infos g.end n many) none (no_request-infos g.end n many)
 
 -- ---- the parts of a step ----
-pub last : (a b c : Bool) → (a && b && c) ≡ true → c ≡ true
-last true true c h = h
-last true false c h = absurd (cc h)
-last false b c h = absurd (cc h)
+pub third_of_and : (a b c : Bool) → (a && b && c) ≡ true → c ≡ true
+third_of_and true true c h = h
+third_of_and true false c h = absurd (cc h)
+third_of_and false b c h = absurd (cc h)
 
 finished : (done : Bool) (now : ℕ) (g : Effect) → is_done g.end ≡ done → Sound g → Sound (if done then begin_to_close now g else g)
 finished true now g e h =
-    let test : nat_eq g.end.sending.acked (total g.end.sending) ≡ true = last (is_up g.end.phase) g.end.closing _ e in
+    let test : nat_eq g.end.sending.acked (total g.end.sending) ≡ true = third_of_and (is_up g.end.phase) g.end.closing _ e in
     let all : AllAcknowledged g.end = grind (arith, nat_tests) in
     (λ c. all, λ to number w. all)
 finished false now g e h = h

@@ -87,9 +87,9 @@ ends_otherwise why s g other p =
     let over : State = (end_with why g).end in
     record { retries = p.retries; counts = ended_by s over refl p.counts; untold = other_told g.notes why other p.untold }
 
-pub first_of : (a b c : Bool) → (a && b && c) ≡ true → a ≡ true
-first_of true b c e = refl
-first_of false b c e = e
+pub first_of_and : (a b c : Bool) → (a && b && c) ≡ true → a ≡ true
+first_of_and true b c e = refl
+first_of_and false b c e = e
 
 not_closing : (p : EndPhase) → is_up p ≡ true → is_closing p ≡ false
 not_closing Connecting e = refl
@@ -99,7 +99,7 @@ not_closing Ended e = refl
 
 finished : (done : Bool) (now : ℕ) (s : State) (g : Effect) → is_done g.end ≡ done → Part s g → Whole s (if done then begin_to_close now g else g)
 finished true now s g e p =
-    let up : is_up g.end.phase ≡ true = first_of (is_up g.end.phase) g.end.closing _ e in
+    let up : is_up g.end.phase ≡ true = first_of_and (is_up g.end.phase) g.end.closing _ e in
     let before : is_closing s.phase ≡ false = sym p.closing ∙ not_closing g.end.phase up in
     let anew : is_anew s (begin_to_close now g).end ≡ true = simp before (or-true (nat_lt s.sending.acked g.end.sending.acked)) in
     record { retries = p.retries; counts = inl (anew, refl); untold = p.untold }

@@ -1,19 +1,14 @@
 -- The lines below a frame's: what its information is by its PID (AX.25 2.2, section 3.4). The text is own profile.
-use Rattle.std.specs.Prelude.{ℕ, List, [], ◌∷◌, ◌++◌, ◌%◌, length, Bool, true, false, ◌&&◌, ◌==◌, nat_le, codes, Option, Some, None, if◌then◌else◌}
+use Rattle.std.specs.Prelude.{ℕ, List, [], ◌∷◌, ◌++◌, ◌%◌, length, Bool, ◌&&◌, ◌==◌, nat_le, codes, Option, Some, None, if◌then◌else◌}
 use Rattle.std.specs.Fmt.{decimal}
 use Rattle.ax_address.specs.Callsign.{Callsign, padded, same_call}
-use Rattle.ax_frame.specs.declared.control.Control.{Control}
-use Rattle.ax_frame.specs.declared.control.Control.TheVariants.{Ui}
+use Rattle.ax_frame.specs.Controls.{is_ui}
 use Rattle.ax_frame.specs.Frames.{Frame}
 pub use Rattle.nodes_broadcast.specs.Nodes.{nodes_call}
 use Rattle.frame_lines.specs.DatagramLines.{datagram_text}
 use Rattle.frame_lines.specs.NodesLines.{nodes_text}
 use Rattle.frame_lines.specs.PacketLines.{arp_text, packet_text}
 use Rattle.frame_lines.specs.TextLines.{text_line}
-
-abbrev pub is_ui : Control → Bool
-is_ui (Ui pf) = true
-is_ui _ = false
 
 -- a broadcast of routes is a UI frame to NODES
 abbrev pub is_nodes : Frame → Bool

@@ -2,9 +2,9 @@
 use Rattle.std.specs.Prelude.{ℕ, suc, ◌++◌, List, [], ◌∷◌, length, not, codes, Bool}
 use Rattle.std.specs.Fmt.{decimal}
 use Rattle.std.specs.List.{flat_map}
-use Rattle.std.proofs.Common.{lit≤}
 use Rattle.ax_address.specs.Callsign.{Callsign}
 use Rattle.ax_address.specs.declared.address.Address.{Address}
+use Rattle.ax_address.specs.Octets.{address_of}
 use Rattle.ax_frame.specs.declared.head.Head.{Head}
 use Rattle.ax_frame.specs.FrameText.{frame_text}
 use Rattle.ax_link.specs.declared.notice.LinkNotice.{LinkNotice}
@@ -71,13 +71,13 @@ notice_line n = codes "notice " ++ (letter n.0 ++ (codes " " ++ (notice_word n.1
 abbrev pub took_line : Side × ℕ → List ℕ
 took_line t = codes "took " ++ (letter t.0 ++ (codes " " ++ (decimal t.1 ++ codes "\n")))
 
-abbrev pub address_of : Side → Bool → Address
-address_of side bit7 = record { call = call_of side; bit7 = bit7; reserved = 3; two_bits = lit≤ tt }
+abbrev pub side_address : Side → Bool → Address
+side_address side bit7 = address_of (call_of side) bit7
 
 -- who a frame of a side is to and from. A response has the C bit of the source alone (AX.25 2.2, section 6.1.2)
 abbrev pub head_of : Side → Bool → Head
 head_of side command =
-    record { dest = address_of (other side) command; source = address_of side (not command); path = record { items = [] } }
+    record { dest = side_address (other side) command; source = side_address side (not command); path = record { items = [] } }
 
 -- air S FRAME
 abbrev pub air_line : ℕ → Side × Frame → List ℕ

@@ -9,7 +9,7 @@ use crate::act::Side;
 use crate::calls::Calls;
 use crate::life_refusals::LifeRefusal;
 use arrayvec::ArrayString;
-use ax_address::{Address, Path};
+use ax_address::{Address, Path, address_of};
 use ax_frame::{FrameView, Head, show_frame};
 use ax_link::{LinkNotice, LinkOut};
 use radio_base::{Modulus, NoMemory, TextOut, push_decimal};
@@ -91,14 +91,10 @@ fn other(side: Side) -> Side
     }
 }
 
-fn address_of(calls: &Calls, side: Side, bit7: bool) -> Address
-    ensures { result ≡ reports.address_of side bit7 }
+fn side_address(calls: &Calls, side: Side, bit7: bool) -> Address
+    ensures { result ≡ reports.side_address side bit7 }
 {
-    Address {
-        call: calls.of(side),
-        bit7,
-        reserved: 3,
-    }
+    address_of(calls.of(side), bit7)
 }
 
 /// Who a frame of a side is to and from.
@@ -106,8 +102,8 @@ fn head_of(calls: &Calls, side: Side, command: bool) -> Head
     ensures { result ≡ reports.head_of side command }
 {
     Head {
-        dest: address_of(calls, other(side), command),
-        source: address_of(calls, side, !command),
+        dest: side_address(calls, other(side), command),
+        source: side_address(calls, side, !command),
         path: Path::new(),
     }
 }

@@ -3,7 +3,8 @@
 use Rattle.std.specs.Prelude.{ℕ, ◌≡◌, ◌≤◌, ◌⊎◌, List, length, Some}
 use Rattle.std.specs.List.{AllByRecursion}
 use Rattle.arrayvec.specs.ArrayVec.{ArrayVec}
-use Rattle.ax_address.specs.Callsign.{Callsign, IsCallsign}
+use Rattle.ax_address.specs.Callsign.{Callsign}
+pub use Rattle.ax_address.specs.Callsign.{IsCall}
 use Rattle.ax_address.specs.declared.address.Address.{Address}
 use Rattle.ax_frame.specs.Frames.{Frame as AirFrame, IsAddress, Spells}
 use Rattle.ax_link.specs.Bounds.{Bounded, stock}
@@ -12,9 +13,6 @@ use Rattle.link_table.specs.Calls.{arrive, break_link, close, collect, fetch, no
 use Rattle.link_table.specs.Frames.{Sent, octets_of}
 use Rattle.link_table.specs.Texts.{send_text, take_text}
 use Rattle.link_table.specs.Table.{Linked, Table, Via}
-
-abbrev pub IsCall : Callsign → Type 0
-IsCall c = IsCallsign c.letters c.ssid
 
 -- repeaters that a frame may have
 pub record IsWay (path : ArrayVec Address) : Type 0 where

@@ -1,7 +1,7 @@
 -- What holds of every network that a file lays down. Own profile.
 use Rattle.std.specs.Prelude.{ℕ, ◌≡◌, ◌≤◌, ◌==◌, ◌&&◌, List, [], ◌∷◌, Ok, true, false}
 use Rattle.std.specs.List.{AllByRecursion}
-use Rattle.ax_address.specs.Callsign.{Callsign, IsCallsign}
+pub use Rattle.ax_address.specs.Callsign.{IsCall}
 use Rattle.network_file.specs.declared.plan.instructions.NumberedInstruction.{NumberedInstruction}
 use Rattle.network_file.specs.declared.plan.declarations.Declaration.{Declaration}
 use Rattle.network_file.specs.declared.plan.instructions.Instruction.{Instruction}
@@ -52,10 +52,6 @@ HaveOwnCalls (d ∷ ds) = (has_call ds d.call ≡ false) × HaveOwnCalls ds
 -- each call is that of one node
 abbrev pub CallsDeclaredOnce : Type 0
 CallsDeclaredOnce = (bytes : List ℕ) (plan : Plan) → network_of bytes ≡ Ok plan → HaveOwnCalls plan.declared
-
--- a call is one, as all that are read from a file are
-abbrev pub IsCall : Callsign → Type 0
-IsCall c = IsCallsign c.letters c.ssid
 
 -- who is heard, to whom a route is locked, for whom a circuit is asked, and a mail's user and the user's node
 abbrev pub NamesCalls : Instruction → Type 0

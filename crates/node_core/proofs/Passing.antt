@@ -9,7 +9,8 @@ use Rattle.ax_frame.specs.declared.control.Control.{Control}
 use Rattle.ax_frame.specs.declared.frame.FrameRefusal.{FrameRefusal}
 use Rattle.ax_frame.specs.Frames.{BeginsWith, Frame, frame, SpelledHeadIsRead, head_in, read_at, read_head_at}
 use Rattle.ax_frame.specs.Reading.{frame_at, head_end}
-use Rattle.node_core.specs.Broadcasts.{has_netrom_pid, is_ui, nodes_call}
+use Rattle.ax_frame.specs.Controls.{is_ui}
+use Rattle.node_core.specs.Broadcasts.{has_netrom_pid, nodes_call}
 use Rattle.node_core.specs.Receiving.{take_frame}
 use Rattle.node_model.specs.Links as links
 use Rattle.node_model.specs.Serving.{greet_links}

@@ -10,7 +10,7 @@ use Rattle.ax_frame.specs.declared.control.Control.{Control}
 use Rattle.ax_frame.specs.declared.control.Control.TheVariants as control
 use Rattle.ax_frame.specs.declared.frame.FrameRefusal.{FrameRefusal}
 use Rattle.ax_frame.specs.declared.head.Head.{Head}
-use Rattle.ax_frame.specs.Controls.{IsLinkModulus, NumbersFit, control_octets, format_of}
+use Rattle.ax_frame.specs.Controls.{IsLinkModulus, NumbersFit, control_octets, format_of, is_ui}
 use Rattle.ax_frame.specs.Frames.{Frame, HeadWithoutFault, IsAddress, addresses, addresses_octets, frame, frame_octets, pid_octets, Spells, SpelledHeadIsRead, SpelledIsRead, head_in, read_at, read_head_at}
 use Rattle.ax_frame.specs.Reading.{control_at, control_from, control_or_short, field_end, frame_at, has_code, head_end, numbered, pid_at, poll_bit, supervisory, unnumbered}
 use Rattle.ax_link.specs.Kinds.{payload_of}
@@ -18,7 +18,7 @@ use Rattle.link_table.specs.Calls.{set_up_size}
 use Rattle.link_table.specs.Frames.{is_numbered}
 use Rattle.link_table.specs.Laws.{Brings, FrameHolds}
 use Rattle.link_table.specs.Reaching.{ComesFrom, IsWay}
-use Rattle.node_core.specs.Broadcasts.{is_broadcast, is_ui}
+use Rattle.node_core.specs.Broadcasts.{is_broadcast}
 use Rattle.node_core.specs.Carried.{Borne, IsAloft, IsCarried, brings_to, is_aloft}
 
 -- a frame as it is read: a broadcast, or what it brings was carried to the node to which it goes, and it sets up a link of this modulus alone

@@ -2,13 +2,12 @@
 -- ticks in which they are sent.
 use Rattle.std.specs.Prelude.{ℕ, ◌+◌, ◌*◌, ◌/◌, Bool, true, false, ◌&&◌, ◌==◌, List, [], ◌∷◌, length, take, drop, map, Option, Some, None, codes, nat_le, if◌then◌else◌}
 use Rattle.std.specs.List.{range_with_len}
-use Rattle.std.proofs.Common.{lit≤}
 use Rattle.ax_address.specs.Callsign.{Callsign, padded, same_call}
-use Rattle.ax_address.specs.declared.address.Address.{Address}
 use Rattle.ax_address.specs.declared.alias.Alias.{Alias}
 use Rattle.ax_address.specs.declared.entry.Entry.{Entry}
-use Rattle.ax_frame.specs.declared.control.Control.{Control}
 use Rattle.ax_frame.specs.declared.control.Control.TheVariants.{Ui}
+use Rattle.ax_address.specs.Octets.{address_of}
+use Rattle.ax_frame.specs.Controls.{is_ui}
 use Rattle.ax_frame.specs.Frames.{Frame, frame, frame_octets}
 use Rattle.link_table.specs.declared.written.Written.{Written}
 use Rattle.radio_base.specs.declared.modulus.LinkModulus.TheVariants.{Modulo8}
@@ -23,20 +22,12 @@ use Rattle.node_model.specs.States.{State, at_links, at_set, put, with_items}
 abbrev pub netrom_pid : ℕ
 netrom_pid = 0xCF
 
-abbrev pub is_ui : Control → Bool
-is_ui (Ui pf) = true
-is_ui _ = false
-
 abbrev pub has_netrom_pid : Option ℕ → Bool
 has_netrom_pid (Some pid) = pid == netrom_pid
 has_netrom_pid None = false
 
 abbrev pub is_broadcast : Frame → Bool
 is_broadcast f = is_ui f.control && (has_netrom_pid f.pid && same_call f.head.dest.call nodes_call)
-
--- the address of a sender or receiver, with its C bit; this node writes the reserved bits 1
-abbrev pub address_of : Callsign → Bool → Address
-address_of c bit7 = record { call = c; bit7 = bit7; reserved = 3; two_bits = lit≤ tt }
 
 -- a broadcast of this node: a command without repeaters
 abbrev pub broadcast_frame : Callsign → Broadcast → Frame

@@ -5,7 +5,7 @@ ghost use Rattle.ax_frame.specs.Frames.{view as frame_of};
 ghost use Rattle.nodes_broadcast.specs.Nodes.{view};
 ghost use Rattle.node_core.specs.Broadcasts as broadcasts;
 
-use ax_address::{Address, Alias, Call, Entry, MAX_ENTRIES, Path};
+use ax_address::{Alias, Call, Entry, MAX_ENTRIES, Path, address_of};
 use ax_frame::{Control, FrameBytes, FrameView, Head, write_frame};
 use nodes_broadcast::{Nodes, nodes_call, push_nodes};
 use radio_base::{M8, NETROM_PID};
@@ -24,17 +24,6 @@ pub(crate) fn is_broadcast(frame: &FrameView<'_>) -> bool
     match frame.control {
         Control::Ui { .. } => frame.pid == Some(NETROM_PID) && is_to_nodes(&frame.head),
         _ => false,
-    }
-}
-
-/// The address of a sender or receiver, with its C bit. This node writes the reserved bits 1.
-fn address_of(call: Call, bit7: bool) -> Address
-    ensures { result ≡ broadcasts.address_of call bit7 }
-{
-    Address {
-        call,
-        bit7,
-        reserved: 3,
     }
 }
 

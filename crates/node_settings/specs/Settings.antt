@@ -13,7 +13,7 @@ use Rattle.network_file.specs.declared.plan.keys.Key.TheVariants.{Window, Timeou
 use Rattle.network_file.specs.declared.plan.vias.Via.{Via}
 use Rattle.network_file.specs.Keys.{Assignment, value_of}
 use Rattle.node_core.specs.declared.config.NodeConfig.{NodeConfig}
-use Rattle.node_core.specs.Broadcasts.{address_of}
+use Rattle.ax_address.specs.Octets.{address_of}
 use Rattle.route_table.specs.declared.route.RouteRules.{RouteRules}
 use Rattle.node_model.specs.States.{NodeState, at_links}
 

@@ -8,7 +8,7 @@ use Rattle.ax_frame.proofs.Spelled.{addresses_length}
 use Rattle.ax_frame.specs.declared.control.Control.TheVariants.{Ui}
 use Rattle.ax_frame.specs.declared.frame.Full.{Full}
 use Rattle.ax_frame.specs.Frames.{Frame, Spells, addresses_octets, frame, frame_octets}
-use Rattle.station_members.specs.Beacons.{address_of}
+use Rattle.ax_address.specs.Octets.{address_of}
 
 abbrev pub with_info : Callsign → Callsign → List ℕ → Frame
 with_info to from info = frame (record { dest = address_of to true; source = address_of from false; path = record { items = [] } }) (Ui false) (Some 240) info

@@ -1,17 +1,12 @@
 -- Beacons (AX.25 2.2, section 4.3.3.6; when they go is this project's profile).
 use Rattle.std.specs.Prelude.{ℕ, ◌+◌, ◌-◌, ◌^◌, ◌||◌, min, nat_le, is_none, Bool}
 use Rattle.std.specs.Prelude.{true, false, List, [], map, filter, Option, Some, None, if◌then◌else◌}
-use Rattle.ax_address.specs.Callsign.{Callsign}
-use Rattle.ax_address.specs.declared.address.Address.{Address}
+use Rattle.ax_address.specs.Octets.{address_of}
 use Rattle.ax_frame.specs.declared.control.Control.TheVariants.{Ui}
 use Rattle.ax_frame.specs.Frames.{Frame, frame, frame_octets}
-use Rattle.node_core.specs.Broadcasts as broadcasts
 use Rattle.station_ports.specs.declared.port_frame.PortFrame.{PortFrame}
 use Rattle.station_members.specs.declared.beacons.Beacon.{Beacon}
 use Rattle.station_members.specs.declared.config.BeaconConfig.{BeaconConfig}
-
-abbrev pub address_of : Callsign → Bool → Address
-address_of call bit7 = broadcasts.address_of call bit7
 
 -- a UI command without repeaters, with the PID of text without a layer 3
 abbrev pub beacon_frame : BeaconConfig → Frame

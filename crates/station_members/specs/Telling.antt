@@ -3,7 +3,7 @@ use Rattle.std.specs.Prelude.{ℕ, ◌&&◌, ◌==◌, not, is_some, length, Boo
 use Rattle.std.specs.Prelude.{position}
 use Rattle.ax_address.specs.Callsign.{Callsign, same_call}
 use Rattle.ax_address.specs.declared.entry.Entry.{Entry}
-use Rattle.ax_frame.specs.declared.control.Control.{Control}
+pub use Rattle.ax_frame.specs.Controls.{is_ui}
 use Rattle.ax_frame.specs.declared.frame.FrameRefusal.{FrameRefusal}
 use Rattle.ax_frame.specs.Frames.{Frame, read_at}
 use Rattle.node_core.specs.Broadcasts as broadcasts
@@ -13,9 +13,6 @@ use Rattle.station_members.specs.declared.seat.Seat.{Seat}
 
 abbrev pub nodes_call : Callsign
 nodes_call = broadcasts.nodes_call
-
-abbrev pub is_ui : Control → Bool
-is_ui control = broadcasts.is_ui control
 
 -- UI to NODES with the PID of NET/ROM, without repeaters
 abbrev pub is_broadcast : Frame → Bool

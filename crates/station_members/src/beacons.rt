@@ -1,10 +1,9 @@
 //! Beacons. The desk has them.
 ghost use Rattle.std.specs.Prelude.{◌≡◌, ◌≤◌, ◌+◌, ◌++◌, length, IfOk, OnOk};
-ghost use Rattle.ax_address.specs.Callsign.{IsCallsign};
 ghost use Rattle.station_members.specs.Beacons as beacons;
 
 use crate::BeaconConfig;
-use ax_address::{Address, Call, Path};
+use ax_address::{Path, address_of};
 use ax_frame::{Control, FrameBytes, Head, write_frame};
 use radio_base::{M8, Moment, NoMemory};
 use station_ports::{FrameOctets, PortFrame};
@@ -74,8 +73,6 @@ fn beacon_octets(config: &BeaconConfig<'_>) -> FrameBytes
     requires { length config.now.text.now ≤ 256 }
     ensures { result.items ≡ beacons.octets_of config.now }
 {
-    is_callsign(&config.to);
-    is_callsign(&config.from);
     let mut octets = FrameBytes::new();
     let head = Head {
         dest: address_of(config.to, true),
@@ -89,27 +86,9 @@ fn beacon_octets(config: &BeaconConfig<'_>) -> FrameBytes
     octets
 }
 
-/// What holds of every call.
-fn is_callsign(call: &Call)
-    ensures { IsCallsign call.now.letters call.now.ssid }
-{
-    let _ = call.ssid();
-}
-
 fn push_text(text: &[u8], octets: &mut FrameBytes)
     requires { length octets.old.items + length text.now ≤ 1023 }
     ensures { octets.new.items ≡ octets.old.items ++ text.now }
 {
     let _ = octets.try_extend_from_slice(text);
-}
-
-/// The address of a sender or receiver, with its C bit. A station writes the reserved bits 1.
-fn address_of(call: Call, bit7: bool) -> Address
-    ensures { result ≡ beacons.address_of call bit7 }
-{
-    Address {
-        call,
-        bit7,
-        reserved: 3,
-    }
 }

@@ -10,7 +10,7 @@ use Rattle.ax_frame.specs.Frames.{addresses_octets, pid_octets, SpellsHead}
 use Rattle.ax_frame.specs.Controls.{control_octets}
 use Rattle.ax_frame.proofs.Addresses.{six_letters}
 use Rattle.station_ports.specs.Headings.{is_direct}
-use Rattle.station_ports.specs.Readdressed.{with_ssid, with_call_at, address_of}
+use Rattle.station_ports.specs.Readdressed.{with_ssid, with_call_at, address_with}
 use Rattle.station_ports.specs.Laws.{SpellsWithDest, SpellsWithSource}
 
 pub six_doubles : (letters : List ℕ) (ssid : ℕ) → IsCallsign letters ssid → length (doubles letters) ≡ 6
@@ -36,12 +36,12 @@ octet_of_ssid a last rest h =
 
 -- an address behind others gets another call
 readdressed : (front : List ℕ) (a : Address) (last : Bool) (rest : List ℕ) (c : Callsign) → IsCallsign a.call.letters a.call.ssid → c.ssid ≤ 15 →
-    with_call_at (length front) c (front ++ (address_octets a last ++ rest)) ≡ front ++ (address_octets (address_of c a) last ++ rest)
+    with_call_at (length front) c (front ++ (address_octets a last ++ rest)) ≡ front ++ (address_octets (address_with c a) last ++ rest)
 readdressed front a last rest c h small =
     let behind = address_octets a last ++ rest in
     let octets = front ++ behind in
     let at = length front in
-    let new = ssid_octet (address_of c a) last in
+    let new = ssid_octet (address_with c a) last in
     let taken : take at octets ≡ front = take_at front behind at refl in
     let bits : slice_index octets (at + 6) ≡ ssid_octet a last = get_or-append-add front behind 6 0 ∙ octet_of_ssid a last rest h in
     let dropped : drop (at + 7) octets ≡ rest =
@@ -72,7 +72,7 @@ with_dest size f octets c call h =
       spelled =
           ap (with_call_at 0 c) (h.spelled ∙ in_parts (address_octets old false) more control pid f.info)
           ∙ (readdressed [] old false rest c h.calls.0 call.small
-          ∙ sym (in_parts (address_octets (address_of c old) false) more control pid f.info));
+          ∙ sym (in_parts (address_octets (address_with c old) false) more control pid f.info));
     }
 
 -- behind the source stand the repeaters
@@ -110,7 +110,7 @@ with_source size f octets c call h =
     let rest = repeaters ++ (control ++ (pid ++ f.info)) in
     let seven : length dest ≡ 7 = seven_octets f.head.dest false h.calls.0 in
     let split = from_parts dest (address_octets old last) repeaters control pid f.info (addresses_octets (old ∷ path)) (source_first old path) in
-    let joined = from_parts dest (address_octets (address_of c old) last) repeaters control pid f.info (addresses_octets (address_of c old ∷ path)) (source_first (address_of c old) path) in
+    let joined = from_parts dest (address_octets (address_with c old) last) repeaters control pid f.info (addresses_octets (address_with c old ∷ path)) (source_first (address_with c old) path) in
     record {
       calls = (h.calls.0, (call, h.calls.1.1));
       eight = h.eight;

@@ -13,13 +13,13 @@ abbrev pub with_call_at : ℕ → Callsign → List ℕ → List ℕ
 with_call_at at c octets =
     take at octets ++ map (λ b. 2 * b) c.letters ++ with_ssid (slice_index octets (at + 6)) c.ssid ∷ drop (at + 7) octets
 
-abbrev pub address_of : Callsign → Address → Address
-address_of c a = record a { call = c }
+abbrev pub address_with : Callsign → Address → Address
+address_with c a = record a { call = c }
 
 -- the frame to another call
 abbrev pub frame_to : Callsign → Frame → Frame
-frame_to c f = record f { head = record f.head { dest = address_of c f.head.dest } }
+frame_to c f = record f { head = record f.head { dest = address_with c f.head.dest } }
 
 -- the frame from another call
 abbrev pub frame_from : Callsign → Frame → Frame
-frame_from c f = record f { head = record f.head { source = address_of c f.head.source } }
+frame_from c f = record f { head = record f.head { source = address_with c f.head.source } }

@@ -4,12 +4,12 @@ use Rattle.std.specs.Prelude.{Some, Result, Ok, Err, OnOk, IsErr}
 use Rattle.std.proofs.lemmas.List.{length-append, length-map, length-replicate}
 use Rattle.arrayvec.specs.ArrayVec.{ArrayVec}
 use Rattle.ax_address.specs.Callsign.{Callsign, IsCallsign, name_in, padded}
-use Rattle.ax_address.specs.Octets.{address_octets, ssid_octet}
+use Rattle.ax_address.specs.Octets.{address_octets, address_of, ssid_octet}
 use Rattle.ax_address.specs.declared.address.Address.{Address}
 use Rattle.ax_frame.specs.declared.control.Control.TheVariants.{Ui}
 use Rattle.ax_frame.specs.declared.frame.Full.{Full}
 use Rattle.ax_frame.specs.Frames.{Spells, frame, frame_octets}
-use Rattle.tool_cmd.specs.Gateways.{address_of, ui_frame, ui_octets}
+use Rattle.tool_cmd.specs.Gateways.{ui_frame, ui_octets}
 
 address_len : (a : Address) (last : Bool) → IsCallsign a.call.letters a.call.ssid → length (address_octets a last) ≡ 7
 address_len a last h =

@@ -1,11 +1,10 @@
 -- What a forwarder of packets does with the items of a KISS stream, and what is sent. (AX.25 2.2, section 4.3.3.6; own profile.)
-use Rattle.std.specs.Prelude.{ℕ, ◌≡◌, ◌++◌, List, [], ◌∷◌, Bool, true, false, ◌&&◌, ◌==◌, Option, Some, None, Result, Ok, Err, if◌then◌else◌}
-use Rattle.std.proofs.Common.{lit≤}
+use Rattle.std.specs.Prelude.{ℕ, ◌≡◌, ◌++◌, List, [], ◌∷◌, true, false, ◌&&◌, ◌==◌, Option, Some, None, Result, Ok, Err, if◌then◌else◌}
 use Rattle.kiss_framing.specs.declared.item.KissItem.{KissItem}
 use Rattle.kiss_framing.specs.Stream.{Item, Frame as Piece, Too_long, items, framed}
 pub use Rattle.kiss_framing.specs.Feeding.{item_of}
 use Rattle.ax_address.specs.Callsign.{Callsign}
-use Rattle.ax_address.specs.declared.address.Address.{Address}
+use Rattle.ax_address.specs.Octets.{address_of}
 use Rattle.ax_frame.specs.declared.control.Control.TheVariants.{Ui}
 use Rattle.ax_frame.specs.declared.frame.FrameRefusal.{FrameRefusal}
 use Rattle.ax_frame.specs.Frames.{Frame, frame, frame_octets, read_at}
@@ -14,10 +13,6 @@ use Rattle.ax_ip.specs.Machine.{State, Turn, after, turn}
 use Rattle.ax_ip.specs.declared.route.IpRoute.{IpRoute}
 use Rattle.ax_ip.specs.Routes.{IsRoute}
 use Rattle.cmd_streams.specs.Streams.{Read, bytes_of}
-
--- the address of a sender or receiver, with its C bit; this station writes the reserved bits 1
-abbrev pub address_of : Callsign → Bool → Address
-address_of c bit7 = record { call = c; bit7 = bit7; reserved = 3; two_bits = lit≤ tt }
 
 -- a route with these parts was taken in, and stands last
 abbrev pub with_route : IpRoute → State → State

@@ -1,12 +1,11 @@
 //! A forwarder of packets at a KISS stream: what comes, and what is sent. Called by `ip` and `words`, and by `node_cmd`.
 ghost use Rattle.std.specs.Prelude.{◌≡◌, ◌≤◌, [], length, None, OnOk, OnErr};
-ghost use Rattle.ax_address.specs.Callsign.{IsCallsign};
 ghost use Rattle.ax_ip.specs.Machine.{state, waiting};
 ghost use Rattle.ax_ip.specs.Routes as routes;
 ghost use Rattle.tool_cmd.specs.Gateways as gateways;
 
 use arrayvec::ArrayVec;
-use ax_address::{Address, Call, Path};
+use ax_address::{Call, Path, address_of};
 use ax_frame::{Control, FrameBytes, Head, read_frame, write_frame};
 use ax_ip::{Forwarder, IpOut, RouteRefusal};
 use cmd_streams::{ItemTaker, put_data};
@@ -121,16 +120,4 @@ fn write_ui(call: &Call, to: &Call, pid: u8, info: &[u8], octets: &mut FrameByte
         path: Path::new(),
     };
     let _ = write_frame::<M8>(&head, &Control::Ui { pf: false }, Some(pid), info, octets);
-}
-
-/// The address of a sender or receiver, with its C bit. This station writes the reserved bits 1.
-fn address_of(call: Call, bit7: bool) -> Address
-    ensures value { result ≡ gateways.address_of call bit7 }
-    ensures call { IsCallsign call.letters call.ssid }
-{
-    Address {
-        call,
-        bit7,
-        reserved: 3,
-    }
 }
