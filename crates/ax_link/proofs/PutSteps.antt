@@ -16,6 +16,10 @@ use Rattle.ax_link.specs.Bounds.{Bounded, Stock, stock, Brings, Has, HasIf, Have
 use Rattle.ax_link.proofs.Ways.{place_in}
 use Rattle.ax_link.proofs.PutOut.{IsPut, IsPutOut, some, with_sent, with_acked, room_for, with_next, with_early, with_given, with_rest, emptied}
 
+pub all_drop : {A : Type 0} (P : A → Type 0) (xs : List A) → AllByRecursion P xs → AllByRecursion P (drop 1 xs)
+all_drop P [] a = tt
+all_drop P (x ∷ xs) a = a.1
+
 module _ (given came : Payload → Bool) where
   abbrev Holds : Stock → Type 0
   Holds s = Bounded s × HavePayloads given came s
@@ -27,10 +31,6 @@ module _ (given came : Payload → Bool) where
   all_snoc : {A : Type 0} (P : A → Type 0) (xs ys : List A) → AllByRecursion P xs → AllByRecursion P ys → AllByRecursion P (xs ++ ys)
   all_snoc P [] ys a b = b
   all_snoc P (x ∷ xs) ys a b = (a.0, all_snoc P xs ys a.1 b)
-
-  all_drop : {A : Type 0} (P : A → Type 0) (xs : List A) → AllByRecursion P xs → AllByRecursion P (drop 1 xs)
-  all_drop P [] a = tt
-  all_drop P (x ∷ xs) a = a.1
 
   all_at : {A : Type 0} (P : A → Type 0) (xs : List A) (n : ℕ) → AllByRecursion P xs → n < length xs → (x : A) × (slice_get xs n ≡ Some x) × P x
   all_at P [] n a l = absurd (omega (arith, l))

@@ -83,6 +83,10 @@ abbrev pub is_up : LinkPhase → Bool
 is_up Up = true
 is_up _ = false
 
+abbrev pub is_down : LinkPhase → Bool
+is_down Down = true
+is_down _ = false
+
 -- T1 runs while an answer is awaited
 abbrev pub runs_in : LinkPhase → State → Bool
 runs_in Down s = false

@@ -9,7 +9,8 @@ use Rattle.circuit_l4.specs.declared.pair.Pair.{Pair}
 use Rattle.circuit_l4.specs.declared.transport.Flags.{Flags}
 use Rattle.circuit_l4.specs.declared.transport.Transport.TheVariants.{Request, Accept, Refuse, Disconnect, Disconnected, Info, InfoAck}
 use Rattle.circuit_l4.specs.Transports.{pair_at, flags_in, flag_bits}
-use Rattle.circuit_l4.specs.Spelling.{WrittenAgainIsTheSame, plain_call}
+use Rattle.l3_datagram.specs.Datagrams.{plain_call}
+use Rattle.circuit_l4.specs.Spelling.{WrittenAgainIsTheSame}
 use Rattle.circuit_l4.proofs.Spelling.{doubled_six}
 
 -- five octets and the rest

@@ -275,7 +275,7 @@ ticked false true now s = falls_due s.phase now s
 ticked false false now s = whole s (begin s) (begun s)
 
 -- ---- a step ----
-abbrev moment_of : State → Input → ℕ → Moment
+abbrev pub moment_of : State → Input → ℕ → Moment
 moment_of s i now = record { was = s; tick = tick_of i now; is = (step s i now).end }
 
 steps : (s : State) (i : Input) (now : ℕ) → Ticked s (expires (moment_of s i now)) (step s i now)

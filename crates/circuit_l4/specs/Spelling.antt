@@ -1,8 +1,9 @@
 -- Laws of the spelling of transports.
-use Rattle.std.specs.Prelude.{ℕ, ◌≡◌, ◌+◌, ◌*◌, ◌/◌, ◌%◌, ◌<◌, ◌≤◌, List, [], ◌∷◌, ◌++◌, length, take, drop, slice_index, Ok}
+use Rattle.std.specs.Prelude.{ℕ, ◌≡◌, ◌+◌, ◌<◌, ◌≤◌, List, [], ◌∷◌, ◌++◌, length, take, drop, slice_index, Ok}
 use Rattle.ax_address.specs.Callsign.{IsCallsign}
 use Rattle.circuit_l4.specs.declared.transport.Transport.{Transport}
 use Rattle.circuit_l4.specs.declared.transport.Transport.TheVariants.{Request, Accept, Refuse, Disconnect, Disconnected, Info, InfoAck}
+use Rattle.l3_datagram.specs.Datagrams.{plain_call}
 use Rattle.circuit_l4.specs.Transports.{SpellsTransport, transport_octets, transport_at}
 
 -- the calls of a request are calls, and a text has at most 236 bytes
@@ -22,10 +23,6 @@ WrittenTransportSpellsIt = (transport : Transport) → IsTransport transport →
 -- what is written for a transport is read as it
 abbrev pub WrittenTransportIsRead : Type 0
 WrittenTransportIsRead = (transport : Transport) → IsTransport transport → transport_at (transport_octets transport) ≡ Ok transport
-
--- the octets of a call, of whose last one bits 4 to 1 alone are kept
-abbrev pub plain_call : List ℕ → List ℕ
-plain_call octets = take 6 octets ++ (96 + 2 * (slice_index octets 6 / 2 % 16)) ∷ []
 
 -- the octets of a transport, of which all that is ignored is as it is written
 abbrev pub plain : Transport → List ℕ → List ℕ

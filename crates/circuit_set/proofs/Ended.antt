@@ -20,7 +20,7 @@ use Rattle.circuit_l4.specs.Moves.{acknowledge, again, answer, answer_all, wait_
 use Rattle.circuit_l4.specs.Laws.{Accepts, Asks, IsNew, after_inputs, followed_by}
 use Rattle.circuit_l4.specs.Table.{Input, Write, Arrive, Tick, Close, Take, arrive_in, ask_by, close_in_turn, due_in, expire, note_activity, is_due, may_close, unchoke, common_window, come_up, resume_by, retry, retry_in, step, step_at, take_from, write_answer, write}
 use Rattle.circuit_l4.proofs.Parts.{either_going}
-use Rattle.circuit_l4.proofs.Retries.{first_of}
+use Rattle.circuit_l4.proofs.Retries.{first_of_and}
 use Rattle.circuit_set.specs.Books.{any_ends}
 use Rattle.circuit_table.specs.Events.{ends_it}
 use Rattle.circuit_set.specs.NotedRuns.{opened_window}
@@ -78,7 +78,7 @@ up_is_open P Ended e f = cc
 
 finish_case : (s : State) (now : ℕ) (g : Effect) (b : Bool) → is_done g.end ≡ b → Goes s g → Goes s (if b then begin_to_close now g else g)
 finish_case s now g true e k =
-    let up : is_up g.end.phase ≡ true = first_of (is_up g.end.phase) g.end.closing (nat_eq g.end.sending.acked (total g.end.sending)) e in
+    let up : is_up g.end.phase ≡ true = first_of_and (is_up g.end.phase) g.end.closing (nat_eq g.end.sending.acked (total g.end.sending)) e in
     let n : Effect = begin_to_close now g in
     record {
       told = elim k.told [ inl r ↦ inl (r.0, λ e. cc) | inr r ↦ up_is_open (((n.notes ≡ []) × (has_ended n.end.phase ≡ true → has_ended s.phase ≡ true)) ⊎ IsLast n) g.end.phase up r.over ];

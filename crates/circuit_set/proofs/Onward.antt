@@ -10,7 +10,7 @@ use Rattle.circuit_l4.specs.Laws.{FailsAfterRetries, IsNew, after_inputs, follow
 use Rattle.circuit_l4.specs.Table.{Input, step}
 use Rattle.circuit_l4.specs.Expiries as ends
 use Rattle.circuit_l4.specs.Expiries.{Moment, any_renews, count, expires, expiries, is_anew, is_closing, renews}
-use Rattle.circuit_l4.proofs.Retries.{since_all}
+use Rattle.circuit_l4.proofs.Retries.{moment_of, since_all}
 use Rattle.circuit_set.proofs.Acts.{lives_on}
 use Rattle.circuit_set.proofs.Invariant.{Lived}
 
@@ -61,9 +61,6 @@ self_anew s =
     simp (same, closing) refl
 
 -- ---- over inputs ----
-abbrev pub moment_of : State → Input → ℕ → Moment
-moment_of s i now = record { was = s; tick = ends.tick_of i now; is = (step s i now).end }
-
 moments_on : (g : Effect) (inputs : List (Input × ℕ)) (i : Input) (now : ℕ) → ends.moments g.end (inputs ++ (i, now) ∷ []) ≡ ends.moments g.end inputs ++ moment_of (after_inputs g inputs).end i now ∷ []
 moments_on g [] i now = refl
 moments_on g (j ∷ inputs) i now = ap (λ ms. moment_of g.end j.0 j.1 ∷ ms) (moments_on (followed_by g (step g.end j.0 j.1)) inputs i now)

@@ -113,13 +113,13 @@ module _ (z : Name) (n : EndNotice) where
       (r.0, r.1, said_in r.1.after (subst (λ ns. Contains ns n) (told_is z es r.0 r.1) k))
 
 -- ---- a run ----
-run_book : (net : Net) (steps : List Step) → (net_run net steps).book ≡ with_events net.book (events_of net.sets steps)
+pub run_book : (net : Net) (steps : List Step) → (net_run net steps).book ≡ with_events net.book (events_of net.sets steps)
 run_book net [] = refl
 run_book net (st ∷ sts) =
     run_book (net_step net st) sts
     ∙ sym (noted_append net.book (told_at net.sets st.node (slice_get net.sets st.node) st.act) (events_of (sets_at net.sets st.node (slice_get net.sets st.node) st.act) sts))
 
-run_sets : (net : Net) (steps : List Step) → (net_run net steps).sets ≡ sets_run net.sets steps
+pub run_sets : (net : Net) (steps : List Step) → (net_run net steps).sets ≡ sets_run net.sets steps
 run_sets net [] = refl
 run_sets net (st ∷ sts) = run_sets (net_step net st) sts
 
@@ -157,7 +157,7 @@ fresh_front : (b : Book) (lost : List Name) (xs ys : List Event) → FreshFrom b
 fresh_front b lost [] ys f = tt
 fresh_front b lost (x ∷ xs) ys f = (f.0, fresh_front (with_event b x) (lost_with lost x.node x.told) xs ys f.1)
 
-front_are : (xs ys : List Step) → AreSteps (xs ++ ys) → AreSteps xs
+pub front_are : (xs ys : List Step) → AreSteps (xs ++ ys) → AreSteps xs
 front_are [] ys a = tt
 front_are (x ∷ xs) ys a = (a.0, front_are xs ys a.1)
 

@@ -14,7 +14,7 @@ use Rattle.circuit_l4.specs.declared.notice.EndNotice.TheVariants.{Closed, Close
 use Rattle.circuit_l4.specs.declared.owed.Owed.{Owed}
 use Rattle.circuit_l4.specs.State.{Effect, Out, State, info, info_ack, infos, is_up, Sending, fragments, total, Receiving}
 use Rattle.circuit_l4.specs.Moves.{Acknowledgement, acknowledge, acknowledge_by, advance, again, wait, wait_if_out, hold, begin_to_close, fill, fill_count, finish, is_done, owed_by, emit_infos, put_out, supply, emit_ack}
-use Rattle.circuit_l4.proofs.Disconnects.{last}
+use Rattle.circuit_l4.proofs.Disconnects.{third_of_and}
 use Rattle.circuit_l4.proofs.Parts.{either}
 use Rattle.circuit_set.specs.Lines.{at_place}
 use Rattle.circuit_set.specs.Outs.{AllOut, OutOk}
@@ -314,7 +314,7 @@ up_ends w s h wrote half g o = record {
 finish_case : (w : ℕ) (s : State) (h : ℕ) (wrote : List (List ℕ)) (half : Receiving) (now : ℕ) (g : Effect) (b : Bool) → is_done g.end ≡ b → on_up w s h wrote half g
     → on_end w s h wrote half (if b then begin_to_close now g else g)
 finish_case w s h wrote half now g true e o =
-    let test : nat_eq g.end.sending.acked (total g.end.sending) ≡ true = last (is_up g.end.phase) g.end.closing (nat_eq g.end.sending.acked (total g.end.sending)) e in
+    let test : nat_eq g.end.sending.acked (total g.end.sending) ≡ true = third_of_and (is_up g.end.phase) g.end.closing (nat_eq g.end.sending.acked (total g.end.sending)) e in
     let all : g.end.sending.acked ≡ total g.end.sending = grind (arith, nat_tests) in
     record {
       quiet = o.quiet;

@@ -22,6 +22,17 @@ use Rattle.circuit_table.specs.Standing.{Rests}
 use Rattle.circuit_table.specs.CircuitSets.{Circuits, DoesPump, SetStands, untold_by}
 use Rattle.circuit_table.specs.SetTurns.{Asks, AsksOnce, IsAsked, Onward, SoFar, asks_once}
 
+-- what comes up gives the log nothing
+pub heard_items : (now : ℕ) (w : Waiting) (r : Routed) → (heard_as now w r).items ≡ []
+heard_items now w (routed.Mine origin d) = refl
+heard_items now w routed.Forwarded = refl
+heard_items now w (routed.Lost call) = refl
+heard_items now w routed.Expired = refl
+heard_items now w routed.NoRoute = refl
+heard_items now w routed.Returned = refl
+heard_items now w routed.Dropped = refl
+heard_items now w routed.Bad = refl
+
 -- ---- a turn that tells nothing ----
 module _ (nh : Callsign → Option Callsign) where
   abbrev Speaks : Turn → Offered → Type 0
@@ -69,16 +80,6 @@ module _ (nh : Callsign → Option Callsign) where
       → Silent (elim o as (λ x. Pumped) [ Some told ↦ ends_with [] u | None ↦ (if is_drained u.after then ends_with [] u else turn_step now (tells nh u.after) answer) ])
   on_case now u answer (Some told) f i e = let z : Some told ≡ None = sym f ∙ e in absurd (cc z)
   on_case now u answer None f i e = quiet_case now u answer (is_drained u.after) refl f i e
-
-  heard_items : (now : ℕ) (w : Waiting) (r : Routed) → (heard_as now w r).items ≡ []
-  heard_items now w (routed.Mine origin d) = refl
-  heard_items now w routed.Forwarded = refl
-  heard_items now w (routed.Lost call) = refl
-  heard_items now w routed.Expired = refl
-  heard_items now w routed.NoRoute = refl
-  heard_items now w routed.Returned = refl
-  heard_items now w routed.Dropped = refl
-  heard_items now w routed.Bad = refl
 
   way_items : (now : ℕ) (w : Waiting) (x : Way) (answer : Offered) → (outcome (hears_by now w x) answer).items ≡ []
   way_items now w (Ends told) answer = heard_items now w told

@@ -53,7 +53,7 @@ pub no_outs : (own : Callsign) (ttl id : ℕ) (to : Callsign) (os : List Out) �
 no_outs own ttl id to [] e = refl
 no_outs own ttl id to (o ∷ os) e = absurd (cc e)
 
-no_notes : (id : ℕ) (ns : List EndNotice) → notices id ns ≡ [] → ns ≡ []
+pub no_notes : (id : ℕ) (ns : List EndNotice) → notices id ns ≡ [] → ns ≡ []
 no_notes id [] e = refl
 no_notes id (n ∷ ns) e = absurd (cc e)
 

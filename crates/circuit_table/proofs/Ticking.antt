@@ -143,7 +143,8 @@ module _ (s : SetState) (now : ℕ) where
   ticked_held hi lo (h ∷ hs) es fs held t = tick_case hi lo h es fs hs held.0 held.1 t (ticked_held hi (suc h.id) hs)
 
 -- ---- as inputs ----
-abbrev Rising : ℕ → List sets.Holder → Type 0
+-- the numbers of ends rise from this one on
+abbrev pub Rising : ℕ → List sets.Holder → Type 0
 Rising lo [] = Unit {0}
 Rising lo (h ∷ hs) = (lo ≤ h.id) × Rising (suc h.id) hs
 

@@ -9,6 +9,7 @@ use Rattle.ax_link.specs.declared.phase.LinkPhase.{LinkPhase}
 use Rattle.ax_link.specs.declared.phase.LinkPhase.TheVariants.{Down}
 use Rattle.ax_link.specs.Opening.{opening}
 use Rattle.ax_link.specs.State.{Effect, Frame, Rules, State, is_up}
+pub use Rattle.ax_link.specs.State.{is_down}
 
 -- a frame under way: when it was sent, and in which epoch of its sender, 0 where it had none then
 pub record Flight : Type 0 where
@@ -61,10 +62,6 @@ is_of_account (Rnr nr pf) = true
 is_of_account (Rej nr pf) = true
 is_of_account (Srej nr pf) = true
 is_of_account _ = false
-
-abbrev pub is_down : LinkPhase → Bool
-is_down Down = true
-is_down _ = false
 
 -- an epoch begins with these notices, and the one before it is over
 abbrev pub begins : LinkNotice → Bool

@@ -1,6 +1,7 @@
 -- What comes up came, and what is sent was offered.
-use Rattle.std.proofs.Common.{◌≡◌, ℕ, zero, suc, ◌==◌, Bool, true, false, nat_le, List, [], ◌∷◌, ◌++◌, length, map, drop, Option, Some, None, slice_get, refl, ap, sym, ◌∙◌, subst, if◌then◌else◌, ◌&&◌, replicate, inl, inr, is_some}
+use Rattle.std.proofs.Common.{◌≡◌, ℕ, zero, suc, ◌==◌, Bool, true, false, nat_le, List, [], ◌∷◌, ◌++◌, length, map, Option, Some, None, slice_get, refl, ap, sym, ◌∙◌, subst, if◌then◌else◌, ◌&&◌, replicate, inl, inr, is_some}
 use Rattle.std.specs.Prelude.{◌⊎◌, is_ok}
+use Rattle.ax_link.proofs.PutSteps.{all_drop}
 use Rattle.ax_link.specs.declared.config.LinkConfig.{LinkConfig}
 use Rattle.std.proofs.lemmas.Bool.{eqb-true}
 use Rattle.std.specs.List.{AllByRecursion}
@@ -14,7 +15,7 @@ use Rattle.ax_frame.specs.declared.control.Control.{Control}
 use Rattle.ax_frame.specs.declared.control.Control.TheVariants as control
 use Rattle.ax_frame.specs.FrameText.{is_command}
 use Rattle.ax_frame.specs.Frames.{Frame as AirFrame, frame}
-use Rattle.ax_link.specs.Kinds.{info_of, payload_of, pid_of}
+use Rattle.ax_link.specs.Kinds.{info_of, payload_of, pid_of, payload}
 use Rattle.ax_link.specs.Opening.{opening, rules_new}
 use Rattle.ax_link.specs.Bounds.{Bounded, stock, Has, HasIf}
 use Rattle.ax_link.specs.Laws.{BoundsStay, PayloadsStay, SettingsStay}
@@ -35,10 +36,6 @@ use Rattle.link_table.proofs.Lifting.{untexted}
 use Rattle.ax_segment.specs.Segments.{segments_of}
 use Rattle.link_table.specs.Texts as texts
 use Rattle.link_table.specs.Works.{Work, arrive_at_link, first_to_take, is_down, hand_up, most_taken, emit, note_caller, settle, step_link, take_payload, tell}
-
-all_drop : {A : Type 0} (P : A → Type 0) (xs : List A) → AllByRecursion P xs → AllByRecursion P (drop 1 xs)
-all_drop P [] a = tt
-all_drop P (x ∷ xs) a = a.1
 
 first_has : (t : Payload → Bool) (xs : List Payload) (p : Payload) → AllByRecursion (Has t) xs → slice_get xs 0 ≡ Some p → Has t p
 first_has t [] p a e = absurd (cc e)
@@ -365,7 +362,7 @@ module _ (law : PayloadsStay) (bounds_stay : BoundsStay) (settings_stay : Settin
       WorkCarries (texts.send_each own (texts.payloads pid infos) now w)
   each_carries own pid [] now w e x = x
   each_carries own pid (i ∷ is) now w e x =
-      each_carries own pid is now (step_link own (Send (texts.payload pid i)) now w) e (stepped_carries own (Send (texts.payload pid i)) now w (rw e refl) x)
+      each_carries own pid is now (step_link own (Send (payload pid i)) now w) e (stepped_carries own (Send (payload pid i)) now w (rw e refl) x)
 
   text_sent_carries : (peer : Callsign) (text : List ℕ) (now : ℕ) (t : Table) → Carries offered came sizes t → Carries offered came sizes (texts.send_text peer text now t)
   text_sent_carries peer text now t x =

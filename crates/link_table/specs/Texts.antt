@@ -2,6 +2,7 @@
 use Rattle.std.specs.Prelude.{ℕ, ◌-◌, ◌+◌, ◌==◌, ◌&&◌, not, min, is_some, if◌then◌else◌, List, [], ◌∷◌, length, slice_get, Option, None, Some, zero, suc, ◌/◌, Bool, nat_lt, take, drop, Result, Ok, Err}
 use Rattle.radio_base.specs.declared.payload.Payload.{Payload}
 use Rattle.ax_address.specs.Callsign.{Callsign}
+use Rattle.ax_link.specs.Kinds.{payload}
 use Rattle.ax_link.specs.State.{State, count_end}
 use Rattle.ax_link.specs.Table.{may_close, Send}
 use Rattle.ax_segment.specs.Joining.{Answer, HeldMessage, Whole, join_step}
@@ -76,9 +77,6 @@ cut (first ∷ others) = pieces (length others / 256) (first ∷ others)
 -- on a link of modulo 128 a text of over 256 bytes goes in segments
 abbrev pub in_segments : ℕ → List ℕ → Bool
 in_segments size text = (size == 128) && nat_lt 256 (length text)
-
-abbrev pub payload : ℕ → List ℕ → Payload
-payload pid info = record { pid = pid; info = record { items = info } }
 
 abbrev pub payloads : ℕ → List (List ℕ) → List Payload
 payloads pid [] = []

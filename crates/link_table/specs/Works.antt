@@ -9,6 +9,7 @@ use Rattle.ax_link.specs.declared.kind.Kind.TheVariants.{SetUp}
 use Rattle.ax_link.specs.declared.phase.LinkPhase.{LinkPhase}
 use Rattle.ax_link.specs.declared.phase.LinkPhase.TheVariants.{Down, Up}
 use Rattle.ax_link.specs.State.{Frame, Effect}
+pub use Rattle.ax_link.specs.State.{is_down}
 use Rattle.ax_link.specs.Table.{Input, Arrive, Take, step}
 use Rattle.ax_segment.specs.Joining.{HeldMessage, Nothing, join_step, whole_of}
 use Rattle.link_table.specs.Frames.{Sent, netrom, plain_text, segmented, all_sent}
@@ -89,10 +90,6 @@ settle (suc n) own now w = elim (first_to_take w) as (λ x. Work) [ None ↦ w |
 -- more than an inbox and the places for early payloads hold
 abbrev pub most_taken : ℕ
 most_taken = 192
-
-abbrev pub is_down : LinkPhase → Bool
-is_down Down = true
-is_down _ = false
 
 abbrev pub is_set_up : Kind → Bool
 is_set_up (SetUp pf) = true

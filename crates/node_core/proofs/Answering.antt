@@ -4,7 +4,7 @@ use Rattle.std.specs.Prelude.{Result, Ok, Err}
 use Rattle.node_core.specs.declared.acts.ActDone.{ActDone}
 use Rattle.node_core.specs.declared.acts.ActRefusal.{ActRefusal}
 use Rattle.node_core.specs.declared.acts.ActRefusal.TheVariants as refusal
-use Rattle.node_core.specs.Going.{wants_memory}
+use Rattle.node_core.specs.Acts.{wants_memory}
 use Rattle.node_core.specs.Standing.{IsAnswer}
 
 -- The code's test finds NoMemory alone.

@@ -5,6 +5,7 @@ use Rattle.std.proofs.lemmas.Bool.Decides.{nat_tests}
 use Rattle.ax_address.specs.Callsign.{Callsign}
 use Rattle.circuit_table.specs.Pumps.{TellsLess, Of, Dropped, Offers, Pumped, Says, SetTold, Turn, Turned, Waiting, at_rest, ends_with, is_drained, is_empty, offer_of, outcome, turn_step, weight, weights}
 use Rattle.circuit_table.specs.Pumps as pumps
+use Rattle.circuit_table.proofs.Looping.{heard_items}
 use Rattle.circuit_table.specs.Sets as sets
 use Rattle.circuit_table.specs.Sets.{SetState}
 use Rattle.l3_datagram.specs.Datagrams.{CarrierCall, Collect, Fail, Parcel, head_at}
@@ -14,7 +15,6 @@ use Rattle.l3_datagram.specs.declared.carrier.Offered.TheVariants.{Taken, Droppe
 use Rattle.l3_datagram.specs.declared.datagram.DatagramHead.{DatagramHead}
 use Rattle.l3_datagram.specs.declared.datagram.DatagramRefusal.{DatagramRefusal}
 use Rattle.l3_datagram.specs.declared.routed.Routed.{Routed}
-use Rattle.l3_datagram.specs.declared.routed.Routed.TheVariants as routed
 use Rattle.link_table.specs.Calls.{collect, tell_lost}
 use Rattle.link_table.specs.Standing.{AllAnswer, after_call as call_done, after_calls}
 use Rattle.link_table.specs.Kept.{OffersLeave, TakesLower}
@@ -130,16 +130,6 @@ some_told : (hop : Callsign → Option Callsign) (w : Waiting) → is_drained w 
 some_told hop w e answer = told_by hop w.set w.untold w.lost e answer
 
 -- ---- what comes up gives the log nothing
-
-heard_items : (now : ℕ) (w : Waiting) (r : Routed) → (pumps.heard_as now w r).items ≡ []
-heard_items now w (routed.Mine origin d) = refl
-heard_items now w routed.Forwarded = refl
-heard_items now w (routed.Lost call) = refl
-heard_items now w routed.Expired = refl
-heard_items now w routed.NoRoute = refl
-heard_items now w routed.Returned = refl
-heard_items now w routed.Dropped = refl
-heard_items now w routed.Bad = refl
 
 by_items : (now : ℕ) (w : Waiting) (x : Way) (answer : Offered) → (outcome (pumps.hears_by now w x) answer).items ≡ []
 by_items now w (Ends r) answer = heard_items now w r

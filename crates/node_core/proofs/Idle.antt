@@ -1,5 +1,5 @@
 -- Circuits of which nothing is untold: no output and no notice waits at them, and a take of which nothing comes changes nothing.
-use Rattle.std.proofs.Common.{◌≡◌, ◌≤◌, ◌<◌, ◌∙◌, ◌++◌, inl, inr, ℕ, suc, refl, sym, ap, subst, arith, List, [], ◌∷◌, length}
+use Rattle.std.proofs.Common.{◌≡◌, ◌<◌, ◌∙◌, ◌++◌, inl, inr, ℕ, suc, refl, sym, ap, subst, arith, List, [], ◌∷◌, length}
 use Rattle.std.specs.Prelude.{Bool, true, false, ◌||◌, nat_eq, nat_lt, if◌then◌else◌, Option, Some, None, Ok, Err}
 use Rattle.std.specs.Option.{option_to_list}
 use Rattle.std.proofs.lemmas.Bool.Decides.{nat_tests}
@@ -16,7 +16,8 @@ use Rattle.circuit_table.specs.Sets as s
 use Rattle.circuit_table.specs.Sets.{SetDone, SetState, CircuitTold}
 use Rattle.circuit_table.specs.Standing.{EachStands, Keeps, Rests, if_so, sendings_by, take_answer, untold_of}
 use Rattle.circuit_table.specs.declared.holder.Holder.{Holder}
-use Rattle.circuit_table.proofs.Moving.{no_outs}
+use Rattle.circuit_table.proofs.Moving.{no_notes, no_outs}
+use Rattle.circuit_table.proofs.Ticking.{Rising}
 use Rattle.link_table.specs.Standing.{TableView as Kept}
 use Rattle.node_model.specs.Links as circuits
 use Rattle.node_core.specs.Going.{SetHoldsTold}
@@ -32,10 +33,6 @@ left_none (x ∷ xs) ys e = absurd (cc e)
 pub right_none : {A : Type 0} (xs ys : List A) → xs ++ ys ≡ [] → ys ≡ []
 right_none [] ys e = e
 right_none (x ∷ xs) ys e = absurd (cc e)
-
-no_notes : (id : ℕ) (ns : List EndNotice) → s.notices id ns ≡ [] → ns ≡ []
-no_notes id [] e = refl
-no_notes id (n ∷ ns) e = absurd (cc e)
 
 no_notice : (o : Option EndNotice) → option_to_list o ≡ [] → o ≡ None
 no_notice None e = refl
@@ -70,11 +67,6 @@ told_is_drained c n t =
     inr (rests_by n.set.set.own n.set.set.ttl n.set.set.number 0 c.held.ends.entries n.set.set.ends [] refl p.ends.ends, sym p.lost)
 
 -- ---- an end that comes to itself
-
--- the numbers of ends rise from this one on
-abbrev pub Rising : ℕ → List s.Holder → Type 0
-Rising lo [] = Unit {0}
-Rising lo (h ∷ hs) = (lo ≤ h.id) × Rising (suc h.id) hs
 
 pub rising : (own : Callsign) (ttl hi lo : ℕ) (es : List (ℕ × Holder)) (hs : List s.Holder) (told : List CircuitTold) → EachStands own ttl hi lo es hs told → Rising lo hs
 rising own ttl hi lo es [] told p = tt

@@ -392,9 +392,6 @@ module _ (offers : OffersLeave) (takes : TakesLower) (less : TellsLess) where
     pub greeted : AreServed (links.text_peers n.links) n.sessions
     pub sessions : AllByRecursion (WaitsForRoom n) n.sessions
 
-  abbrev dropping : Turn State → Turn State
-  dropping t = record { did = t.did; after = serving.drop_over t.after }
-
   abbrev with_sessions : State → List Session → State
   with_sessions n ss = record n { sessions = ss }
 

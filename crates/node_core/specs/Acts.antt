@@ -67,6 +67,15 @@ act_of (codes.SendText to text) = SendText to text.now
 act_of (codes.OpenLink to path) = OpenLink to path
 act_of (codes.CloseLink peer) = CloseLink peer
 
+abbrev pub is_no_memory : ActRefusal → Bool
+is_no_memory refusal.NoMemory = true
+is_no_memory _ = false
+
+-- an act was refused for want of memory
+abbrev pub wants_memory : Result ActDone ActRefusal → Bool
+wants_memory (Ok _) = false
+wants_memory (Err why) = is_no_memory why
+
 -- Why an act isn't done, by what the part answers to which it goes: want of memory stays what it is.
 
 abbrev pub connect_refusal : ConnectRefusal → ActRefusal

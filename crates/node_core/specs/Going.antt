@@ -1,11 +1,10 @@
 -- How a node's code goes on with the states that it stands for: words for the clauses of its own functions, which no public clause cites.
-use Rattle.std.specs.Prelude.{ℕ, ◌≡◌, Bool, true, false, slice_get, Result, Ok, Err}
+use Rattle.std.specs.Prelude.{ℕ, ◌≡◌, Bool, slice_get, Result}
 use Rattle.circuit_table.specs.CircuitSets.{Circuits, SetStands}
 pub use Rattle.kiss_framing.specs.Feeding.{item_of}
 use Rattle.link_table.specs.Standing.{TableView as Kept}
 use Rattle.node_core.specs.declared.acts.ActDone.{ActDone}
 use Rattle.node_core.specs.declared.acts.ActRefusal.{ActRefusal}
-use Rattle.node_core.specs.declared.acts.ActRefusal.TheVariants as refusal
 use Rattle.node_core.specs.declared.station.Station.{Station}
 use Rattle.node_core.specs.Acts.{Answered}
 use Rattle.node_model.specs.Sessions.{Session}
@@ -60,15 +59,6 @@ pub record Changes (nth : ℕ) (change : Session → Session) (old new : Station
 -- it is changed by each step that says what a change does
 abbrev pub ChangesBy : ℕ → (Session → Session → Type 0) → Station → Station → Type 0
 ChangesBy nth does old new = (step : Session → Session) → ((x y : Session) → does x y → y ≡ step x) → Changes nth step old new
-
-abbrev pub is_no_memory : ActRefusal → Bool
-is_no_memory refusal.NoMemory = true
-is_no_memory _ = false
-
--- an act was refused for want of memory
-abbrev pub wants_memory : Result ActDone ActRefusal → Bool
-wants_memory (Ok _) = false
-wants_memory (Err why) = is_no_memory why
 
 -- Whatever state it stood for: what an act comes to.
 pub record Answers (new : Station) (result : Result ActDone ActRefusal) (a : Answered) : Type 0 where

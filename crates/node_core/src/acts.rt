@@ -1,6 +1,6 @@
 //! What a node's user can do, and what comes of it. Called by `acting`, `hosting` and `node`, and by the replay.
 ghost use Rattle.std.specs.Prelude.{◌≡◌};
-ghost use Rattle.node_core.specs.Going as going;
+ghost use Rattle.node_core.specs.Acts as acts;
 
 use crate::taken_message::TakenMessage;
 use ax_address::{Alias, Call, Path};
@@ -104,9 +104,9 @@ pub enum ActRefusal {
     NoMemory,
 }
 
-/// Whether memory ran out.
-pub(crate) fn wants_memory(outcome: &Result<ActDone, ActRefusal>) -> bool
-    ensures { result ≡ going.wants_memory outcome.now }
+/// Whether an act was refused for want of memory.
+pub fn wants_memory(outcome: &Result<ActDone, ActRefusal>) -> bool
+    ensures { result ≡ acts.wants_memory outcome.now }
 {
     matches!(outcome, Err(ActRefusal::NoMemory))
 }

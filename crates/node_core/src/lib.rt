@@ -21,7 +21,7 @@ mod settling;
 mod station;
 mod taken_message;
 
-pub use acts::{ActDone, ActRefusal, UserAct};
+pub use acts::{ActDone, ActRefusal, UserAct, wants_memory};
 pub use broadcasts::broadcast_frame;
 pub use config::NodeConfig;
 pub use entry::NodeEntry;

@@ -8,6 +8,8 @@ use Rattle.ax_address.specs.Callsign.{Callsign}
 use Rattle.ax_address.specs.declared.alias.Alias.{Alias}
 use Rattle.ax_link.specs.declared.phase.LinkPhase.{LinkPhase}
 use Rattle.ax_link.specs.declared.phase.LinkPhase.TheVariants as phases
+use Rattle.node_prompt.specs.Replies.{count_text}
+pub use Rattle.node_prompt.specs.Replies.{ended}
 use Rattle.route_table.specs.declared.route.Route.{Route}
 use Rattle.station_ports.specs.declared.heard_list.Heard.{Heard}
 use Rattle.station_prompt.specs.Replies.{name, age}
@@ -25,10 +27,6 @@ use Rattle.station_lists.specs.declared.users.Doing.TheVariants as doing
 use Rattle.station_lists.specs.declared.users.UserRow.{UserRow}
 use Rattle.station_lists.specs.declared.users.Where.{Where}
 use Rattle.station_lists.specs.declared.users.Where.TheVariants as from
-
--- a line with the CR at its end
-abbrev pub ended : List ℕ → List ℕ
-ended line = line ++ 13 ∷ []
 
 -- how many there are beside those that were named
 abbrev pub more_text : ℕ → List ℕ
@@ -78,11 +76,6 @@ destinations_text all = ended (codes "Nodes:") ++ destination_lines (take 200 al
 
 abbrev pub routes_head : ShownNode → List ℕ
 routes_head dest = codes "Routes to " ++ (shown dest.alias dest.call ++ ended (codes ":"))
-
--- how many rounds a route has left
-abbrev pub count_text : Option ℕ → List ℕ
-count_text None = codes "locked"
-count_text (Some rounds) = decimal rounds
 
 abbrev pub route_line : MemberRoute → List ℕ
 route_line r =

@@ -1,11 +1,8 @@
 -- What the members of a station show. Own profile.
-use Rattle.std.specs.Prelude.{ℕ, Bool, true, false, List, slice_get, Option, Some, None, Result, Ok, Err}
+use Rattle.std.specs.Prelude.{ℕ, List, slice_get, Option, Some, None}
 use Rattle.std.specs.Option.{option_map}
 use Rattle.ax_address.specs.declared.alias.Alias.{Alias}
 use Rattle.ax_address.specs.Callsign.{Callsign}
-use Rattle.node_core.specs.declared.acts.ActDone.{ActDone}
-use Rattle.node_core.specs.declared.acts.ActRefusal.{ActRefusal}
-use Rattle.node_core.specs.declared.acts.ActRefusal.TheVariants.{NoMemory}
 use Rattle.node_core.specs.Standing.{Kept, NodeStands}
 use Rattle.node_model.specs.States.{NodeState}
 use Rattle.station_ports.specs.declared.heard_list.Heard.{Heard}
@@ -50,11 +47,3 @@ came_at port s = ports.came_at port s.desk.air
 
 abbrev pub went_at : ℕ → State → ℕ
 went_at port s = ports.went_at port s.desk.air
-
-abbrev pub is_no_memory : ActRefusal → Bool
-is_no_memory NoMemory = true
-is_no_memory _ = false
-
-abbrev pub wants_memory : Result ActDone ActRefusal → Bool
-wants_memory (Ok _) = false
-wants_memory (Err why) = is_no_memory why

@@ -14,7 +14,7 @@ use crate::backplane::Backplane;
 use crate::{BeaconConfig, MemberConfig, MemberRules};
 use ax_address::{Alias, Call, Path};
 use link_table::PathRefusal;
-use node_core::{ActDone, ActRefusal, Node, NodeEntry, QualityRefusal, UserAct};
+use node_core::{ActDone, ActRefusal, Node, NodeEntry, QualityRefusal, UserAct, wants_memory};
 use radio_base::{Moment, NoMemory};
 use station_ports::{Heard, PortFrame};
 use std::alloc::Global;
@@ -332,11 +332,4 @@ impl Members {
     {
         self.spent
     }
-}
-
-/// Whether memory ran out.
-fn wants_memory(outcome: &Result<ActDone, ActRefusal>) -> bool
-    ensures { result ≡ looks.wants_memory outcome.now }
-{
-    matches!(outcome, Err(ActRefusal::NoMemory))
 }

@@ -17,7 +17,7 @@ use Rattle.net_model.specs.Standing.{IsTraceOf, Left}
 use Rattle.net_model.specs.World.{World}
 use Rattle.trace_lines.specs.Events.{event_text, events_from, repeats}
 use Rattle.trace_lines.specs.Heads.{file_text, network_text}
-use Rattle.trace_lines.specs.Left.{end_text, ends_text, nodes_text}
+use Rattle.trace_lines.specs.Left.{end_text, ends_text, nodes_trace}
 use Rattle.trace_lines.specs.Marks.{mark_at}
 use Rattle.trace_lines.specs.Texts.{trace_text}
 use Rattle.trace_lines.specs.Verdicts.{cause_text, verdict_line}
@@ -86,24 +86,24 @@ events_same left w plan marks trace marked =
     ∙ (ap (events_from (repeats plan.instructions) left.air 1) trace.told ∙ ap (λ air. events_from (repeats plan.instructions) air 1 w.told) trace.air)
 
 nodes_same : (left : Left) (w : World) → IsTraceOf left w
-    → nodes_text (ends_left left) w.nodes w.mails ≡ nodes_text (λ node. ends_of node w.told) w.nodes w.mails
+    → nodes_trace (ends_left left) w.nodes w.mails ≡ nodes_trace (λ node. ends_of node w.told) w.nodes w.mails
 nodes_same left w trace =
     let ends : ends_left left ≡ (λ node. ends_of node w.told) = λ i node. trace.ends node i in
-    ap (λ (f : ℕ → List EndRecord). nodes_text f w.nodes w.mails) ends
+    ap (λ (f : ℕ → List EndRecord). nodes_trace f w.nodes w.mails) ends
 
 pub trace_joined : (left : Left) (w : World) (file : List ℕ) (plan : Plan) (marks : List Bool) (late : Option Late) (cause : Option LateCause)
     (empty first second third fourth fifth sixth : List ℕ) → IsTraceOf left w → ((line : ℕ) → mark_at marks line ≡ repeats plan.instructions line) → empty ≡ []
     → first ≡ empty ++ network_text plan → second ≡ first ++ file_text file → third ≡ second ++ lines_on marks left.air 1 left.events
-    → fourth ≡ third ++ nodes_text (ends_left left) w.nodes w.mails → fifth ≡ fourth ++ verdict_line late → sixth ≡ fifth ++ cause_text cause
+    → fourth ≡ third ++ nodes_trace (ends_left left) w.nodes w.mails → fifth ≡ fourth ++ verdict_line late → sixth ≡ fifth ++ cause_text cause
     → sixth ≡ trace_text file plan w late cause
 trace_joined left w file plan marks late cause empty first second third fourth fifth sixth trace marked none network lines events nodes verdict why =
     let n = network_text plan in
     let f = file_text file in
     let e = events_from (repeats plan.instructions) w.air 1 w.told in
-    let l = nodes_text (λ node. ends_of node w.told) w.nodes w.mails in
+    let l = nodes_trace (λ node. ends_of node w.told) w.nodes w.mails in
     let one : first ≡ n = network ∙ ap (λ t. t ++ n) none in
     let two : second ≡ n ++ f = lines ∙ ap (λ t. t ++ f) one in
     let three : third ≡ (n ++ f) ++ e = events ∙ (ap (λ t. t ++ lines_on marks left.air 1 left.events) two ∙ ap (λ t. (n ++ f) ++ t) (events_same left w plan marks trace marked)) in
-    let four : fourth ≡ ((n ++ f) ++ e) ++ l = nodes ∙ (ap (λ t. t ++ nodes_text (ends_left left) w.nodes w.mails) three ∙ ap (λ t. ((n ++ f) ++ e) ++ t) (nodes_same left w trace)) in
+    let four : fourth ≡ ((n ++ f) ++ e) ++ l = nodes ∙ (ap (λ t. t ++ nodes_trace (ends_left left) w.nodes w.mails) three ∙ ap (λ t. ((n ++ f) ++ e) ++ t) (nodes_same left w trace)) in
     let five : fifth ≡ (((n ++ f) ++ e) ++ l) ++ verdict_line late = verdict ∙ ap (λ t. t ++ verdict_line late) four in
     why ∙ (ap (λ t. t ++ cause_text cause) five ∙ six n f e l (verdict_line late) (cause_text cause))

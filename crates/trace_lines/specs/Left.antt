@@ -17,7 +17,7 @@ use Rattle.net_model.specs.Tables.{Table}
 use Rattle.net_report.specs.ToldLines.{phase_word}
 use Rattle.node_mail.specs.Lists.{Lists}
 use Rattle.trace_lines.specs.Json.{object, Field, Number, NumberOrNull, Bytes, Word}
-use Rattle.trace_lines.specs.Mails.{mail_text}
+use Rattle.trace_lines.specs.Mails.{mail_trace}
 
 -- ---- tables
 
@@ -84,8 +84,8 @@ node_text ends p =
     table_text (table_of p) ++ ends_text p.declared.node 1 (ends p.declared.node) p.state.station.set.set.ends
 
 -- a node and its mail
-abbrev pub kept_text : (ℕ → List EndRecord) → Placed → Option Lists → List ℕ
-kept_text ends p mail = node_text ends p ++ mail_text p.declared.node mail
+abbrev pub kept_trace : (ℕ → List EndRecord) → Placed → Option Lists → List ℕ
+kept_trace ends p mail = node_text ends p ++ mail_trace p.declared.node mail
 
-abbrev pub nodes_text : (ℕ → List EndRecord) → List Placed → List (Option Lists) → List ℕ
-nodes_text ends nodes mails = by_place (kept_text ends) nodes mails
+abbrev pub nodes_trace : (ℕ → List EndRecord) → List Placed → List (Option Lists) → List ℕ
+nodes_trace ends nodes mails = by_place (kept_trace ends) nodes mails

@@ -20,6 +20,6 @@ stored_line at origin mail to bytes = node_event "stored" at (stored_fields orig
 abbrev pub mail_line : ℕ → ℕ → ℕ → List ℕ
 mail_line node queued stored = object "mail" (Number "node" node ∷ Number "queued" queued ∷ Number "stored" stored ∷ [])
 
-abbrev pub mail_text : ℕ → Option Lists → List ℕ
-mail_text node None = []
-mail_text node (Some s) = mail_line node (length s.queued) (length s.stored)
+abbrev pub mail_trace : ℕ → Option Lists → List ℕ
+mail_trace node None = []
+mail_trace node (Some s) = mail_line node (length s.queued) (length s.stored)

@@ -45,7 +45,7 @@ pub(crate) fn write_nodes(
 ) -> Result<(), NoMemory>
     ensures { OnOk result ((placed : List Placed) (kept : List (Option Lists)) → AreDeclared declared.now placed
         → StandFor nodes.now placed → MailsStand mails.now kept
-        → out.new ≡ out.old ++ left.nodes_text (ends_left (left_of trace.now)) placed kept) }
+        → out.new ≡ out.old ++ left.nodes_trace (ends_left (left_of trace.now)) placed kept) }
 {
     match declared {
         [] => Ok(()),
@@ -72,7 +72,7 @@ fn write_node(
 ) -> Result<(), NoMemory>
     ensures { OnOk result ((p : Placed) (kept : Option Lists) → declared.now ≡ p.declared → NodeStands node.now p.state
         → MailStands mail.now kept
-        → out.new ≡ out.old ++ left.kept_text (ends_left (left_of trace.now)) p kept) }
+        → out.new ≡ out.old ++ left.kept_trace (ends_left (left_of trace.now)) p kept) }
 {
     let table = shown(out.alloc(), declared, node)?;
     write_table(&table, out)?;

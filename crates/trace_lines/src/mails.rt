@@ -53,7 +53,7 @@ pub(crate) fn write_left_mail(
     out: &mut Lines,
 ) -> Result<(), NoMemory>
     ensures { OnOk result ((kept : Option Lists) → MailStands mail.now kept
-        → out.new ≡ out.old ++ mails.mail_text node kept) }
+        → out.new ≡ out.old ++ mails.mail_trace node kept) }
 {
     match mail {
         Some(store) => {
