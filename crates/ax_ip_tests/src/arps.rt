@@ -1,4 +1,4 @@
-//! Messages of ARP read and written.
+//! Messages of ARP read and written. Called by `rt test`.
 use ax_address::Call;
 use ax_ip::{Arp, ArpRefusal, read_arp, write_arp};
 use std::process::Abort;

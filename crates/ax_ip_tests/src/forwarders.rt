@@ -1,4 +1,4 @@
-//! The lines that stand at `Forwarder`, and what is lent until it is fetched.
+//! The lines that stand at `Forwarder`, and what is lent until it is fetched. Called by `rt test`.
 use ax_address::{Address, Call, Path};
 use ax_frame::{Control, FrameView, Head};
 use ax_ip::{ARP_PID, Forwarder, IP_PID, IpDone, IpOut};

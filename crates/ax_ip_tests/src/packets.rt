@@ -1,4 +1,4 @@
-//! Headers of packets.
+//! Headers of packets. Called by `rt test`.
 use ax_ip::{PacketHead, PacketRefusal, read_packet};
 use std::process::Abort;
 

@@ -1,4 +1,5 @@
-//! The moves of which a link's steps are made: Fill, Again, Poll, Reset and the rest.
+//! The moves of which a link's steps are made: Fill, Again, Poll, Reset and the rest. Called by `calls`, `arrivals`, `expiry`, `texts` and
+//! `early`.
 ghost use Rattle.std.specs.Prelude.{◌≡◌, ℕ, Bool, List, ◌+◌, ◌-◌, ◌*◌, ◌≤◌, ◌<◌, ◌++◌, ◌∷◌, [], nat_eq, nat_le, length, drop, slice_get, true, false, None, Some};
 ghost use Rattle.circular_buffer.specs.Buffer.{buffer};
 

@@ -1,4 +1,4 @@
-//! The lines that stand at `End`.
+//! The lines that stand at `End`. Called by `rt test`.
 use arrayvec::ArrayVec;
 use ax_address::Call;
 use circuit_l4::{End, EndConfig, EndNotice, Flags, Pair, Transport};

@@ -1,5 +1,5 @@
 //! What stands where memory is refused, as `bench/allocations` does at each allocation in turn. A set of circuits and a router are spent
-//! then. A table and a carrier stay as they were, and the same call made again gives what it would have given.
+//! then. A table and a carrier stay as they were, and the same call made again gives what it would have given. Called by `rt test`.
 use crate::sets::*;
 use ax_address::{Alias, Call};
 use circuit_set::{ConnectRefusal, SetRefusal};

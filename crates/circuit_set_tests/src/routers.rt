@@ -1,4 +1,4 @@
-//! The lines that stand at `Router`.
+//! The lines that stand at `Router`. Called by `rt test`.
 use ax_address::{Alias, Call};
 use l3_datagram::*;
 use radio_base::Moment;

@@ -1,4 +1,4 @@
-//! The calls that stand at `CircuitSet`.
+//! The calls that stand at `CircuitSet`. Called by `rt test`.
 use ax_address::{Alias, Call};
 use circuit_l4::{EndConfig, EndNotice, Pair};
 use circuit_set::{CircuitSet, ConnectRefusal, SetEvent};

@@ -1,4 +1,5 @@
 //! The calls that stand at `Verdict`, with events at two nodes, N0AAA and N0BBB. The first ends of both are partners, and N0AAA's asks.
+//! Called by `rt test`.
 use ax_address::Call;
 use circuit_l4::Pair;
 use circuit_verdict::{Allowance, CircuitTold, Event, Late, LateWhy, Verdict};

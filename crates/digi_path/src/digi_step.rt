@@ -1,4 +1,4 @@
-//! What a station does with a frame by its path (AX.25 2.2, sections 3.12 and C2.5).
+//! What a station does with a frame by its path (AX.25 2.2, sections 3.12 and C2.5). Called by `node_core`.
 ghost use Rattle.std.specs.Prelude.{◌≡◌, ◌<◌, ◌≤◌, length, slice_set};
 ghost use Rattle.digi_path.specs.Paths.{action, action_of};
 

@@ -1,4 +1,4 @@
-//! Texts that are no aliases.
+//! Texts that are no aliases. Called by `rt test`.
 use ax_address::{Alias, AliasRefusal};
 
 #[test]

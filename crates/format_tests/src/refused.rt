@@ -1,5 +1,5 @@
-//! Where memory is refused, as `bench/allocations` does at each allocation in turn, a text and a joiner stay as they were, and the same call
-//! made again gives what it would have given.
+//! Where memory is refused, as `bench/allocations` does at each allocation in turn, a text and a joiner stay as they were, and the same
+//! call made again gives what it would have given. Called by `rt test`.
 use ax_segment::{Joined, Joiner};
 use radio_base::{NoMemory, TextOut};
 use std::alloc::Global;

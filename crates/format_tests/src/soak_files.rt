@@ -1,4 +1,4 @@
-//! What the file of a number has, as worked by hand.
+//! What the file of a number has, as worked by hand. Called by `rt test`.
 use network_soak::soak_file;
 use std::test::Fail;
 

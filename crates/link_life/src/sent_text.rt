@@ -1,4 +1,4 @@
-//! A text that is sent, as a script lends it.
+//! A text that is sent, as a script lends it. Made by `line`; used by `act` and `turn`.
 ghost use Rattle.std.specs.Prelude.{◌≡◌, ◌≤◌, length};
 
 use radio_base::{Payload, TEXT_PID};

@@ -1,4 +1,4 @@
-//! What the tests of tables of links share.
+//! What the tests of tables of links share. Called by the other files here.
 use crate::{opened, refused, rows, texts};
 use ax_address::Call;
 use ax_frame::{FrameView, read_frame};

@@ -1,4 +1,4 @@
-//! The lines that stand at `Link`.
+//! The lines that stand at `Link`. Called by `rt test`.
 use crate::common::{CONFIG, NOW};
 use arrayvec::ArrayVec;
 use ax_frame::Control;

@@ -1,4 +1,4 @@
-//! Links that are opened, and who has set a link up.
+//! Links that are opened, and who has set a link up. Called by `rt test`.
 use crate::common::{NOW, Trial, a_call, b_call, call, on_two_tables};
 use crate::rows::{arrive_kind, expect_frame, expect_notice, join, path, set_up_65_links};
 use ax_address::Path;

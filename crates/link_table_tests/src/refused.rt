@@ -1,4 +1,4 @@
-//! A table of links is spent where memory is refused, as `bench/allocations` does at each allocation in turn.
+//! A table of links is spent where memory is refused, as `bench/allocations` does at each allocation in turn. Called by `rt test`.
 use crate::common::{NOW, Trial, b_call, call, datagram, on_two_tables, text};
 use crate::rows::{head, path};
 use ax_address::Path;

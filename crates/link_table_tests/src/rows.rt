@@ -1,4 +1,4 @@
-//! Worked rows of one table of links: frames, notices and limits.
+//! Worked rows of one table of links: frames, notices and limits. Called by `rt test`.
 use crate::common::{
     CONFIG, NOW, Trial, a_call, arrive, b_call, call, datagram, hand, on_two_tables,
 };

@@ -1,4 +1,4 @@
-//! Texts at one table of links: in which order they come up, and which are sent.
+//! Texts at one table of links: in which order they come up, and which are sent. Called by `rt test`.
 use crate::common::{NOW, Trial, arrive, b_call, call, on_two_tables, text};
 use crate::rows::{head, join, set_up};
 use ax_address::Call;

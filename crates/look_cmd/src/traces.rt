@@ -1,4 +1,4 @@
-//! The command `trace`.
+//! The command `trace`. Called by `top`.
 ghost use Rattle.std.specs.Prelude.{◌≡◌, ◌≤◌, length, Ok, IfOk, IfErr};
 ghost use Rattle.cmd_streams.specs.Reading.{max_file};
 ghost use Rattle.cmd_streams.specs.StatusNotes.{HasNote, IsSilent};

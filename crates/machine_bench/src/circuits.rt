@@ -1,4 +1,4 @@
-//! Messages over a circuit.
+//! Messages over a circuit. Called by `main`.
 use ax_address::{Alias, Call};
 use circuit_l4::{EndConfig, Pair};
 use circuit_table::CircuitSet;

@@ -1,4 +1,4 @@
-//! Datagrams over links.
+//! Datagrams over links. Called by `main`.
 ghost use Rattle.std.specs.Prelude.{◌≡◌, ◌⊎◌};
 
 use ax_address::{Address, Call, Path};

@@ -1,4 +1,4 @@
-//! Mail and receipts that a store hears.
+//! Mail and receipts that a store hears. Called by `main`.
 use ax_address::Call;
 use l3_datagram::Message;
 use node_mail::{Heard, PostRefusal, Store};

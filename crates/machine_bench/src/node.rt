@@ -1,4 +1,4 @@
-//! Frames into a node.
+//! Frames into a node. Called by `main`.
 ghost use Rattle.node_core.specs.Configs.{IsConfig};
 
 use arrayvec::ArrayVec;

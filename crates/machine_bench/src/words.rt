@@ -1,4 +1,4 @@
-//! The words that name a job.
+//! The words that name a job. Called by `main`.
 use crate::mail::Hearing;
 use std::alloc::Global;
 use std::{env, io};

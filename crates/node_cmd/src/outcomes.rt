@@ -1,4 +1,4 @@
-//! What comes of a network: its run, the verdict on it, and the text that is written of it.
+//! What comes of a network: its run, the verdict on it, and the text that is written of it. Called by `replays` and `soaks`.
 ghost use Rattle.std.specs.Prelude.{◌≡◌, ◌≢◌, ◌≤◌, ◌++◌, length, None, Ok, OnOk, IfOk, IfErr};
 ghost use Rattle.network_file.specs.Networks.{network_of};
 ghost use Rattle.network_file.specs.Plan.{Plan};

@@ -1,4 +1,4 @@
-//! The real streams' adapters over streams that fail.
+//! The real streams' adapters over streams that fail. Called by `rt test`.
 ghost use Rattle.std.specs.Prelude.{◌≤◌, IfOk};
 
 use node_cmd::{Reading, SystemClock, Writing};

@@ -1,4 +1,4 @@
-//! Reads and writes that fail, each of the first eight in turn, and a file that ends after any of its bytes.
+//! Reads and writes that fail, each of the first eight in turn, and a file that ends after any of its bytes. Called by `rt test`.
 use crate::runs::{Case, check, frames_of, replay_of};
 use node_cmd::Status;
 

@@ -1,4 +1,4 @@
-//! A live node over streams in memory.
+//! A live node over streams in memory. Called by `rt test`.
 use crate::runs::{Case, check, replay_of};
 use node_cmd::Status;
 

@@ -1,4 +1,4 @@
-//! The command `life` over streams in memory.
+//! The command `life` over streams in memory. Called by `rt test`.
 use crate::runs::{Case, check, replay_of};
 use node_cmd::Status;
 

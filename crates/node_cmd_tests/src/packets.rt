@@ -1,4 +1,4 @@
-//! Packets over streams in memory.
+//! Packets over streams in memory. Called by `rt test`.
 use crate::runs::{Case, check};
 use node_cmd::Status;
 

@@ -1,4 +1,4 @@
-//! The whole program over streams in memory.
+//! The whole program over streams in memory. Called by `rt test`.
 ghost use Rattle.std.specs.Prelude.{◌≤◌};
 
 use node_cmd::{Ran, Status, run};

@@ -1,4 +1,4 @@
-//! What a node's user can do, and what comes of it. Called by `acting`, `hosting` and `node`, and by the replay.
+//! What a node's user can do, and what comes of it. Called by `acting`, `hosting` and `node`, by `station_members` and by the replay.
 ghost use Rattle.std.specs.Prelude.{◌≡◌};
 ghost use Rattle.node_core.specs.Acts as acts;
 

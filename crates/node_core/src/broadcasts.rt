@@ -1,4 +1,4 @@
-//! Broadcasts as frames (NET/ROM, Appendix B).
+//! Broadcasts as frames (NET/ROM, Appendix B). Called by `receiving` and `rounds`, by `net_world` and by `station_members`.
 ghost use Rattle.std.specs.Prelude.{◌≡◌, ◌≤◌, ◌*◌, length};
 ghost use Rattle.ax_address.specs.Callsign.{same_call};
 ghost use Rattle.ax_frame.specs.Frames.{view as frame_of};

@@ -1,4 +1,4 @@
-//! A circuit that is asked for in a user's name.
+//! A circuit that is asked for in a user's name. Called by `rt test`.
 use crate::nodes::{NOW, Trial, b_call, done, flow, meet, on_three_nodes};
 use ax_address::{Alias, Call};
 use circuit_table::SetEvent;

@@ -1,4 +1,4 @@
-//! A node that hosts its users: what comes over its links stays there until it is taken.
+//! A node that hosts its users: what comes over its links stays there until it is taken. Called by `rt test`.
 use crate::nodes::{NOW, Trial, a_call, b_call, config, done, flow, on_three_nodes, refused};
 use ax_address::{Address, Call, Path};
 use ax_link::{LinkNotice, LinkPhase};

@@ -1,4 +1,4 @@
-//! The lines that stand at `Node`.
+//! The lines that stand at `Node`. Called by `rt test`.
 use crate::nodes::{NOW, Trial, b_call, on_three_nodes, take_in};
 use ax_link::LinkNotice;
 use circuit_table::SetEvent;

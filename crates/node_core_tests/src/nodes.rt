@@ -1,4 +1,4 @@
-//! Whole nodes, joined by lists of frames, and what is tried on them.
+//! Whole nodes, joined by lists of frames, and what is tried on them. Called by `rt test`.
 ghost use Rattle.std.specs.Prelude.{◌≡◌, false};
 ghost use Rattle.node_core.specs.Configs.{IsConfig};
 

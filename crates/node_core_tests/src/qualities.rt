@@ -1,4 +1,4 @@
-//! The quality of the path to a single neighbour.
+//! The quality of the path to a single neighbour. Called by `rt test`.
 use crate::nodes::{Trial, a_call, done, flow, on_three_nodes};
 use ax_address::Call;
 use node_core::{Node, QualityRefusal, UserAct};

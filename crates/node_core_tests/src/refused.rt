@@ -1,4 +1,4 @@
-//! A node is spent where memory is refused, as `bench/allocations` does at each allocation in turn.
+//! A node is spent where memory is refused, as `bench/allocations` does at each allocation in turn. Called by `rt test`.
 use crate::nodes::{NOW, a_call, b_call, config, kiss_bytes};
 use ax_address::Path;
 use link_table::PathRefusal;

@@ -1,4 +1,4 @@
-//! A frame that is cut short or broken.
+//! A frame that is cut short or broken. Called by `rt test`.
 use crate::nodes::{NOW, a_call, b_call, done, node};
 use arrayvec::ArrayVec;
 use ax_address::{Alias, Call};

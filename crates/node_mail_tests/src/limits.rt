@@ -1,4 +1,4 @@
-//! Stores at their limits: 1,000 mails queued, 4,096 stored, each of 1,024 octets.
+//! Stores at their limits: 1,000 mails queued, 4,096 stored, each of 1,024 octets. Called by `rt test`.
 use crate::stores::{
     call, expect_counts, expect_heard, expect_posted, expect_queued, expect_stored, expect_wire,
     store,

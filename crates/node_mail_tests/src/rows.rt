@@ -1,4 +1,4 @@
-//! Worked rows.
+//! Worked rows. Called by `rt test`.
 use crate::stores::{
     call, expect_counts, expect_heard, expect_posted, expect_queued, expect_wire, store,
 };

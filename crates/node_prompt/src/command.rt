@@ -1,4 +1,4 @@
-//! What a line asks for.
+//! What a line asks for. Called by `prompt`.
 ghost use Rattle.std.specs.Prelude.{◌≡◌, Ok};
 ghost use Rattle.node_prompt.specs.Commands as commands;
 

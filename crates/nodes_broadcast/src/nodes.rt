@@ -1,4 +1,5 @@
-//! A broadcast, to which call it goes, and why octets are none (NET/ROM, Appendix B).
+//! A broadcast, to which call it goes, and why octets are none (NET/ROM, Appendix B). Used by `read` and `write`, and by `node_core`,
+//! `network_file` and the crates above that show or pass on broadcasts.
 ghost use Rattle.std.specs.Prelude.{◌≡◌};
 ghost use Rattle.nodes_broadcast.specs.Nodes as reading;
 

@@ -1,4 +1,5 @@
-//! What an information frame carries. The machines of links make theirs by `Payload::of`.
+//! What an information frame carries. The machines of links make theirs by `Payload::of`. Used by `link_life`, `link_table` and all crates
+//! that carry payloads.
 ghost use Rattle.std.specs.Prelude.{◌≡◌, ◌≤◌, length};
 
 use arrayvec::ArrayVec;

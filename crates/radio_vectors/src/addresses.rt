@@ -1,4 +1,4 @@
-//! Addresses of frames (AX.25 2.2, section 3.12), and texts that are no calls (this project's profile).
+//! Addresses of frames (AX.25 2.2, section 3.12), and texts that are no calls (this project's profile). Used by `tests/addresses`.
 use crate::Maker;
 use ax_address::{AddressRefusal, CallRefusal};
 

@@ -1,4 +1,5 @@
-//! Control fields (AX.25 2.2, section 4.2), all worked by hand: each is read behind two addresses, and written there.
+//! Control fields (AX.25 2.2, section 4.2), all worked by hand: each is read behind two addresses, and written there. Used by
+//! `tests/frames`.
 use ax_frame::Control;
 
 /// A control field and what it says.

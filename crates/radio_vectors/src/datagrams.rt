@@ -1,4 +1,4 @@
-//! Datagrams (NET/ROM, Appendix B).
+//! Datagrams (NET/ROM, Appendix B). Used by `tests/datagrams`.
 use crate::Maker;
 use l3_datagram::DatagramRefusal;
 

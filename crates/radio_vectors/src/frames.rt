@@ -1,4 +1,4 @@
-//! AX.25 frames (AX.25 2.2, sections 3 and 4).
+//! AX.25 frames (AX.25 2.2, sections 3 and 4). Used by `tests/frames`.
 use crate::Maker;
 use ax_frame::{Control, FrameRefusal};
 

@@ -1,4 +1,5 @@
-//! KISS: frames in a stream of bytes (Chepponis and Karn, 1987; what becomes of a wrong escape is this project's profile).
+//! KISS: frames in a stream of bytes (Chepponis and Karn, 1987; what becomes of a wrong escape is this project's profile). Used by
+//! `tests/kiss`.
 use crate::Maker;
 
 /// What a KISS frame has.

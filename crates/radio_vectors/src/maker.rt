@@ -1,4 +1,4 @@
-//! Who made the octets of a vector.
+//! Who made the octets of a vector. Used by all vectors.
 
 /// Who made the octets of a vector. Its values never come from the codecs of this repository.
 #[derive(Clone, Copy)]

@@ -1,4 +1,5 @@
-//! Calls in broadcasts, datagrams and transports (NET/ROM, Appendix B; the ignored bits are written as this project's profile says).
+//! Calls in broadcasts, datagrams and transports (NET/ROM, Appendix B; the ignored bits are written as this project's profile says). Used
+//! by `tests/addresses`.
 use crate::Maker;
 use ax_address::AddressRefusal;
 

@@ -1,4 +1,4 @@
-//! NODES broadcasts (NET/ROM, Appendix B).
+//! NODES broadcasts (NET/ROM, Appendix B). Used by `tests/nodes`.
 use crate::Maker;
 use nodes_broadcast::NodesRefusal;
 

@@ -1,4 +1,4 @@
-//! Segments of messages (this project's own layout; direwolf's are the same in what is recorded here).
+//! Segments of messages (this project's own layout; direwolf's are the same in what is recorded here). Used by `tests/segments`.
 use crate::Maker;
 
 /// A message: it is split into these segments, and they join to it.

@@ -1,4 +1,4 @@
-//! Each vector is read by the codecs and written again by them.
+//! Each vector is read by the codecs and written again by them. What its files share is called by them.
 mod addresses;
 mod datagrams;
 mod frames;

@@ -1,4 +1,4 @@
-//! Transports: what the ends of a circuit send each other (NET/ROM, Appendix B).
+//! Transports: what the ends of a circuit send each other (NET/ROM, Appendix B). Used by `tests/transports`.
 use crate::Maker;
 use circuit_l4::{Flags, Pair, TransportRefusal};
 

@@ -1,4 +1,4 @@
-//! The beacons of a file. The station reads them last, since they name ports and members.
+//! The beacons of a file. Called by `station`, the last of all, since they name ports and members.
 ghost use Rattle.std.specs.Prelude.{◌≡◌, ◌≤◌, ◌+◌, [], length, map, Ok, IfOk, IsTrue, MatchResult};
 ghost use Rattle.std.specs.List.{list_all};
 ghost use Rattle.toml.specs.View.{view, table_view};

@@ -1,4 +1,4 @@
-//! What a station of a file runs, in lines. The command `check` tells it.
+//! What a station of a file runs, in lines. The command `check` tells it. Called by `station_check`.
 ghost use Rattle.std.specs.Prelude.{◌≡◌, ◌≤◌, ◌+◌, ◌++◌, length, option_copied, Some, IfOk, OnOk};
 ghost use Rattle.station_file.specs.Told as told;
 

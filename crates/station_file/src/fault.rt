@@ -1,4 +1,4 @@
-//! What is wrong with a table, and where.
+//! What is wrong with a table, and where. Used by all files here that read a table, and by `refusal` and `told`.
 ghost use Rattle.std.specs.Prelude.{◌≡◌, ◌≤◌, ℕ, length, Ok, Err, IfOk, IfErr, MatchResult};
 ghost use Rattle.station_file.specs.Keys.{word_of};
 ghost use Rattle.station_file.specs.Tables.{Tells, TellsOf, placed, fault_at};

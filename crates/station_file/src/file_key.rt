@@ -1,4 +1,4 @@
-//! The keys of a file.
+//! The keys of a file. Used by `section`, `tables`, `fault` and all files here that read a table.
 ghost use Rattle.std.specs.Prelude.{◌≡◌};
 ghost use Rattle.station_file.specs.Keys as keys;
 

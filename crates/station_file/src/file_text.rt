@@ -1,4 +1,4 @@
-//! Texts of a file.
+//! Texts of a file. Used by `fault`, and by the files here that keep texts: `beacons`, `ports`, `posts` and `station`.
 use std::alloc::{AllocError, Global};
 use std::marker::Model;
 

@@ -1,4 +1,4 @@
-//! The items of lists, and the words of an item. The nodes of a file and the station itself are read by these.
+//! The items of lists, and the words of an item. Called by the files in `items/`, and by `nodes`, `beacons` and `station`.
 ghost use Rattle.std.specs.Prelude.{◌≡◌};
 ghost use Rattle.toml.specs.View.{view};
 ghost use Rattle.station_file.specs.Items as lists;

@@ -1,4 +1,5 @@
-//! How much a file may hold, and how large its numbers may be. Each is a literal in the definition of its key.
+//! How much a file may hold, and how large its numbers may be. Each is a literal in the definition of its key. Used by all files here that
+//! read a table or a list.
 
 /// The most bytes of a file.
 pub const MAX_FILE: usize = 65_536;

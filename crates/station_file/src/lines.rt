@@ -1,4 +1,4 @@
-//! The line of a file on which a fault stands. The reader of the file asks for it, since `toml` tells no places of what it has read.
+//! The line of a file on which a fault stands. Called by `refusal`, since `toml` tells no places of what it has read.
 ghost use Rattle.std.specs.Prelude.{◌≡◌, ◌≤◌, ◌<◌, ◌+◌, length, take, slice_index, ◌^◌, Some, option_map, IfOk};
 ghost use Rattle.toml.specs.Data.{as_array, as_table};
 ghost use Rattle.toml.specs.View.{view, table_view};

@@ -1,4 +1,5 @@
-//! The members of a file that serve users. The station reads them; the post is a member too, with a call and an alias of its own.
+//! The members of a file that serve users. Called by `station`; the post, which `posts` reads, is a member too, with a call and an alias of
+//! its own.
 ghost use Rattle.std.specs.Prelude.{◌≡◌, ◌≤◌, ◌+◌, [], length, map, option_map, Ok, Err, IfOk, IsTrue, MatchResult};
 ghost use Rattle.std.specs.List.{list_all};
 ghost use Rattle.toml.specs.View.{view, table_view};

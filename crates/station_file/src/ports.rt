@@ -1,4 +1,4 @@
-//! The ports of a file. The station reads them, and nodes and beacons name them.
+//! The ports of a file. Called by `station`; `nodes` and `beacons` name them.
 ghost use Rattle.std.specs.Prelude.{◌≡◌, ◌≤◌, ◌<◌, ◌+◌, [], length, map, option_map, position, Ok, Err, IfOk, IfSome, MatchResult};
 ghost use Rattle.std.specs.List.{list_all};
 ghost use Rattle.toml.specs.View.{view, table_view};

@@ -1,4 +1,4 @@
-//! The post of a file. The station reads it after its other members.
+//! The post of a file. Called by `station`, after its other members.
 ghost use Rattle.std.specs.Prelude.{◌≡◌, ◌≤◌, length, option_map, Ok, MatchResult};
 ghost use Rattle.toml.specs.View.{view, table_view};
 ghost use Rattle.station_file.specs.Stations as stations;

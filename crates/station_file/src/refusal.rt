@@ -1,4 +1,4 @@
-//! What the bytes of a file say, or why the file is refused.
+//! What the bytes of a file say, or why the file is refused. Called by `station_check`.
 ghost use Rattle.std.specs.Prelude.{◌≡◌, ◌≤◌, length, Some, MatchResult};
 ghost use Rattle.toml.specs.Errors.{IsWithin};
 ghost use Rattle.toml.specs.View.{table_view};

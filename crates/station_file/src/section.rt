@@ -1,4 +1,4 @@
-//! The tables of a file, and the keys that each may have.
+//! The tables of a file, and the keys that each may have. Used by `tables`, `lines`, `fault` and all files here that read a table.
 ghost use Rattle.std.specs.Prelude.{◌≡◌, length};
 ghost use Rattle.station_file.specs.Keys as keys;
 

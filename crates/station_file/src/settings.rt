@@ -1,4 +1,4 @@
-//! What the keys of `set` lines are set to for a node of a file.
+//! What the keys of `set` lines are set to for a node of a file. Called by `nodes`.
 ghost use Rattle.std.specs.Prelude.{◌≡◌, ◌≤◌, ◌+◌, ◌++◌, [], length, option_map, Ok, IfOk, MatchResult};
 ghost use Rattle.network_file.specs.Keys.{least_of, most_of};
 ghost use Rattle.toml.specs.View.{view, table_view};

@@ -1,4 +1,4 @@
-//! What the file of a station says. `read_station` reads it of the tables.
+//! What the file of a station says. It is read by `refusal`, and used by `check` and the crates that run a station.
 ghost use Rattle.std.specs.Prelude.{◌≡◌, ◌≤◌, option_map, Ok, Err, MatchResult};
 ghost use Rattle.toml.specs.View.{view, table_view};
 ghost use Rattle.station_file.specs.Stations as stations;

@@ -1,4 +1,4 @@
-//! What a table has at a key, and that it has no others.
+//! What a table has at a key, and that it has no others. Called by `lines` and all files here that read a table.
 ghost use Rattle.std.specs.Prelude.{◌≡◌, option_map, Ok, MatchResult};
 ghost use Rattle.toml.specs.Data.{get_member};
 ghost use Rattle.toml.specs.View.{view, table_view};

@@ -1,4 +1,4 @@
-//! What is told of a refused file. Who reads the file says its name.
+//! What is told of a refused file. Who reads the file says its name. Called by `station_check`.
 ghost use Rattle.std.specs.Prelude.{◌≡◌, ℕ, List, IfOk, string_bytes};
 ghost use Rattle.station_file.specs.Told as told;
 

@@ -1,4 +1,4 @@
-//! The values of keys, by the rules of their kinds.
+//! The values of keys, by the rules of their kinds. Called by all files here that read a table or a list.
 ghost use Rattle.std.specs.Prelude.{◌≡◌, ◌≤◌, length, map, option_map, IfOk};
 ghost use Rattle.toml.specs.Data.{as_str};
 ghost use Rattle.toml.specs.View.{view};

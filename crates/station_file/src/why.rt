@@ -1,4 +1,4 @@
-//! What is wrong with a key of a file.
+//! What is wrong with a key of a file. Used by `fault`, `values` and all files here that read a table or a list.
 use std::fmt;
 
 /// What is wrong with a key.

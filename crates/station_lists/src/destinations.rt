@@ -1,4 +1,4 @@
-//! The destinations of a station.
+//! The destinations of a station. Called by the crates that run a station.
 ghost use Rattle.std.specs.Prelude.{◌≡◌, ◌++◌, ◌≤◌, ◌+◌, length, OnOk};
 ghost use Rattle.station_lists.specs.Lists as lists;
 

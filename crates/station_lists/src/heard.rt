@@ -1,4 +1,4 @@
-//! Who was heard at a port.
+//! Who was heard at a port. Called by the crates that run a station.
 ghost use Rattle.std.specs.Prelude.{◌≡◌, ◌++◌, IfOk, OnOk, string_bytes};
 ghost use Rattle.station_lists.specs.Lists as lists;
 

@@ -1,4 +1,4 @@
-//! The neighbours to which a direct route leads.
+//! The neighbours to which a direct route leads. Called by the crates that run a station.
 ghost use Rattle.std.specs.Prelude.{◌≡◌, ◌++◌, IfOk, OnOk, flat_map, string_bytes};
 ghost use Rattle.station_lists.specs.Lists as lists;
 

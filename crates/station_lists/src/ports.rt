@@ -1,4 +1,4 @@
-//! The ports of a station.
+//! The ports of a station. Called by the crates that run a station.
 ghost use Rattle.std.specs.Prelude.{◌≡◌, ◌++◌, IfOk, OnOk, flat_map, string_bytes};
 ghost use Rattle.station_lists.specs.Lists as lists;
 

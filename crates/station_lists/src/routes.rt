@@ -1,4 +1,4 @@
-//! The routes to a node.
+//! The routes to a node. Called by the crates that run a station.
 ghost use Rattle.std.specs.Prelude.{◌≡◌, ◌++◌, IfOk, OnOk, string_bytes};
 ghost use Rattle.station_lists.specs.Lists as lists;
 

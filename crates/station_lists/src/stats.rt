@@ -1,4 +1,4 @@
-//! What there is of each at a station, counted.
+//! What there is of each at a station, counted. Called by the crates that run a station.
 ghost use Rattle.std.specs.Prelude.{◌≡◌, ◌++◌, IfOk, OnOk, string_bytes};
 ghost use Rattle.station_lists.specs.Lists as lists;
 

@@ -1,4 +1,4 @@
-//! What a user is told in one line.
+//! What a user is told in one line. Called by the crates that run a station.
 ghost use Rattle.std.specs.Prelude.{◌≡◌, ◌++◌, OnOk};
 ghost use Rattle.station_lists.specs.Telling as telling;
 

@@ -1,4 +1,4 @@
-//! The users of a station.
+//! The users of a station. Called by the crates that run a station.
 ghost use Rattle.std.specs.Prelude.{◌≡◌, ◌++◌, IfOk, OnOk, string_bytes};
 ghost use Rattle.station_lists.specs.Lists as lists;
 

@@ -1,4 +1,4 @@
-//! Beacons. The desk has them.
+//! Beacons. Used by `desk`, which has them, and by `waiting`.
 ghost use Rattle.std.specs.Prelude.{◌≡◌, ◌≤◌, ◌+◌, ◌++◌, length, IfOk, OnOk};
 ghost use Rattle.station_members.specs.Beacons as beacons;
 

@@ -1,4 +1,5 @@
-//! The settings of a member, and of a beacon.
+//! The settings of a member, and of a beacon. Used by `members`, `joining`, `desk`, `seat` and `beacons`, and by the crates that run a
+//! station.
 use arrayvec::ArrayVec;
 use ax_address::Call;
 use node_core::NodeConfig;

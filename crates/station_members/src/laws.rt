@@ -1,4 +1,4 @@
-//! What the definitions promise by themselves.
+//! What the definitions promise by themselves. No code calls them.
 
 ghost use Rattle.std.specs.Prelude.{◌≡◌};
 ghost use Rattle.station_members.specs.Laws.{BackplaneLosesNothing, MembersAreNodes, MembersAreSmall};

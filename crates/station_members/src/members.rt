@@ -1,4 +1,4 @@
-//! The members of a station.
+//! The members of a station. Called by the crates that run a station.
 ghost use Rattle.std.specs.Prelude.{◌≡◌, ◌≤◌, ◌↔◌, length, false, slice_get, IfOk, OnOk, OnErr, IsErr, IsErrOf, IsTrue};
 ghost use Rattle.std.specs.Option.{option_copied, option_map};
 ghost use Rattle.link_table.specs.Standing.{NotNoMemory};

@@ -1,4 +1,4 @@
-//! The ports of a station, and the frames that go there. The desk has them.
+//! The ports of a station, and the frames that go there. Used by `desk`, which has them, and by `routing` and `waiting`.
 ghost use Rattle.std.specs.Prelude.{◌≡◌, ◌≤◌, length, slice_get, IfOk, OnOk};
 ghost use Rattle.station_members.specs.Ports as airs;
 ghost use Rattle.station_members.specs.Ports.{air_of};

@@ -1,4 +1,4 @@
-//! What a member is beside its node. The desk has one for each.
+//! What a member is beside its node. Used by `desk`, which has one for each, and by the files here that ask a seat.
 ghost use Rattle.std.specs.Prelude.{◌≡◌, ◌<◌, length, IfSome, OnOk};
 ghost use Rattle.station_members.specs.Telling as telling;
 ghost use Rattle.station_members.specs.Seats as seats;

@@ -1,4 +1,4 @@
-//! Frames in octets.
+//! Frames in octets. Called by `runs`.
 
 /// UI from N0YYY to N0XXX by way of N0AAA-1 and N0AAA-2, which have not repeated it.
 pub const BY_BOTH: [u8; 30] = [

@@ -1,4 +1,4 @@
-//! Runs.
+//! Runs. Called by `rt test`.
 use crate::frames;
 use crate::stations::{Trial, expect_nothing, expect_sent, hear, on_a_station, settle, tick};
 use ax_address::Call;

@@ -1,4 +1,4 @@
-//! Stations with two ports, and what is tried on them.
+//! Stations with two ports, and what is tried on them. Called by `runs`.
 ghost use Rattle.std.specs.Prelude.{◌≡◌, false};
 ghost use Rattle.node_core.specs.Configs.{IsConfig};
 

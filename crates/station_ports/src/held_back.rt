@@ -1,4 +1,4 @@
-//! Answers that wait for something that says more.
+//! Answers that wait for something that says more. Used by `station_members`.
 ghost use Rattle.std.specs.Prelude.{◌≡◌, ◌<◌, [], length, position, IfSome, OnOk, OnErr};
 ghost use Rattle.station_ports.specs.Holding as holding;
 

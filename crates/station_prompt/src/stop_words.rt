@@ -1,4 +1,5 @@
-//! The words that end a try. Called for the line of a user that is next to be done while something is tried.
+//! The words that end a try. Called by the crates that run a station, for the line of a user that is next to be done while something is
+//! tried.
 ghost use Rattle.std.specs.Prelude.{◌≡◌};
 ghost use Rattle.text_lines.specs.Lines.{texts};
 ghost use Rattle.station_prompt.specs.Commands as commands;

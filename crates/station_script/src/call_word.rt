@@ -1,4 +1,4 @@
-//! Calls as they are typed. Called for what directives and consoles name.
+//! Calls as they are typed. Called by the crates that run a station, for what directives and consoles name.
 ghost use Rattle.std.specs.Prelude.{◌≡◌, IfOk, map};
 ghost use Rattle.std.specs.Result.{result_ok};
 ghost use Rattle.ax_address.specs.Callsign as calls;

@@ -1,4 +1,5 @@
-//! What consoles send: an octet for the console, one for the kind, and the rest. Called for each frame on KISS port 15.
+//! What consoles send: an octet for the console, one for the kind, and the rest. Called by the crates that run a station, for each frame on
+//! KISS port 15.
 ghost use Rattle.std.specs.Prelude.{◌≡◌};
 ghost use Rattle.station_script.specs.Saying as saying;
 

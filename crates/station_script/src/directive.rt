@@ -1,4 +1,4 @@
-//! The directives of a trial: the words behind `!`. Called for each such line.
+//! The directives of a trial: the words behind `!`. Called by the crates that run a station, for each such line.
 ghost use Rattle.std.specs.Prelude.{◌≡◌};
 ghost use Rattle.text_lines.specs.Lines.{texts};
 ghost use Rattle.station_script.specs.Directives as directives;

@@ -1,4 +1,4 @@
-//! Why a directive isn't done.
+//! Why a directive isn't done. Used by `directive`, and by the crates that run a station.
 ghost use Rattle.std.specs.Prelude.{◌≡◌};
 ghost use Rattle.station_script.specs.Directives as directives;
 

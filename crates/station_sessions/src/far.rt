@@ -1,4 +1,4 @@
-//! The far side of a session, and how far that has come.
+//! The far side of a session, and how far that has come. Used by `session`, `far_notes` and `thing`.
 use crate::{Place, Unsent};
 use station_lists::ShownNode;
 

@@ -1,4 +1,4 @@
-//! What a session notes of its far side.
+//! What a session notes of its far side. Called by the crates that run a station.
 ghost use Rattle.std.specs.Prelude.{◌≡◌, ◌≤◌, OnOk, length};
 ghost use Rattle.station_sessions.specs.Noting as noting;
 

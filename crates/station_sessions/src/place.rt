@@ -1,4 +1,4 @@
-//! Where a user is, and what he is connected with.
+//! Where a user is, and what he is connected with. Used by `session` and `far`.
 ghost use Rattle.std.specs.Prelude.{◌≡◌};
 ghost use Rattle.station_sessions.specs.Places as places;
 

@@ -1,4 +1,4 @@
-//! How a user's side stands.
+//! How a user's side stands. Used by `session` and `thing`.
 
 /// How a user's side stands.
 #[derive(Clone, Copy, Debug, PartialEq, Eq)]

@@ -1,4 +1,4 @@
-//! A session: a user, and what he is doing.
+//! A session: a user, and what he is doing. Used by `far_notes` and `thing`, and by the crates that run a station.
 ghost use Rattle.std.specs.Prelude.{◌≡◌, ◌≤◌, [], length, drop, OnOk, Some};
 ghost use Rattle.station_sessions.specs.Sessions as sessions;
 ghost use Rattle.station_sessions.specs.declared.far.Stage.TheVariants.{AtPrompt, Trying};

@@ -1,4 +1,4 @@
-//! What a session sees of its sides.
+//! What a session sees of its sides. Used by `thing`.
 
 /// What a session sees of its user's side and of its far side; what it sees of a far side that it hasn't doesn't count.
 #[derive(Clone, Copy, Debug, PartialEq, Eq)]

@@ -1,4 +1,4 @@
-//! What a session does next.
+//! What a session does next. Called by the crates that run a station.
 ghost use Rattle.std.specs.Prelude.{◌≡◌, Some};
 ghost use Rattle.station_sessions.specs.Things as things;
 

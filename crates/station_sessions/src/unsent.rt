@@ -1,4 +1,4 @@
-//! What is left of a text, and waits for room on a link.
+//! What is left of a text, and waits for room on a link. Used by `session` and `far`.
 ghost use Rattle.std.specs.Prelude.{◌≡◌, ◌≤◌, [], drop, length, not, OnOk};
 ghost use Rattle.station_sessions.specs.Sessions.{has_some};
 

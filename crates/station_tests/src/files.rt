@@ -1,4 +1,4 @@
-//! Files of stations, and where they are wrong.
+//! Files of stations, and where they are wrong. Called by `rt test`.
 use network_file::{Key, value_of};
 use radio_base::TextOut;
 use station_file::{Member, StationFile, check_text, read_station, refusal_text};

@@ -1,4 +1,4 @@
-//! A frame by way of two repeaters, of which one has repeated it.
+//! A frame by way of two repeaters, of which one has repeated it. Called by `rt test`.
 use ax_address::Call;
 use station_ports::{Heading, heading_of, with_dest, with_source};
 use std::alloc::Global;

@@ -1,4 +1,4 @@
-//! What users type.
+//! What users type. Called by `rt test`.
 use crate::frames::call;
 use ax_address::Alias;
 use station_prompt::{

@@ -1,4 +1,4 @@
-//! What a station keeps of its radios.
+//! What a station keeps of its radios. Called by `rt test`.
 use crate::frames::call;
 use ax_address::Alias;
 use radio_base::Moment;

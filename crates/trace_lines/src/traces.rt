@@ -1,4 +1,4 @@
-//! The text of the trace of a network.
+//! The text of the trace of a network. Called by `look_cmd`.
 ghost use Rattle.std.specs.Prelude.{◌≡◌, ◌++◌, OnOk, OnErr, IfOk};
 ghost use Rattle.net_model.specs.Standing.{IsTraceOf};
 ghost use Rattle.net_world.specs.Traces.{left_of};

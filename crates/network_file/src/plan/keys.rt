@@ -1,4 +1,5 @@
-//! The keys of `set` lines.
+//! The keys of `set` lines. Used by `declaring`, `live` and `settings`, by `node_settings` and `station_file`, and by the crates of replays
+//! and traces.
 ghost use Rattle.std.specs.Prelude.{◌≡◌};
 ghost use Rattle.network_file.specs.Keys as keys;
 

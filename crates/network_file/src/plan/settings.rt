@@ -1,4 +1,5 @@
-//! The settings of nodes, and their defaults.
+//! The settings of nodes, and their defaults. Used by `declaring`, `live` and `network`, by `node_settings` and `station_file`, and by the
+//! crates of replays and traces.
 ghost use Rattle.std.specs.Prelude.{◌≡◌, ◌≤◌, IsTrue, IfSome};
 ghost use Rattle.network_file.specs.Keys as keys;
 

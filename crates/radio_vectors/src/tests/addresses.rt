@@ -1,4 +1,4 @@
-//! Addresses, calls in texts, and calls of NET/ROM.
+//! Addresses, calls in texts, and calls of NET/ROM. Called by `rt test`.
 use super::{call, expect};
 use crate::addresses::{ADDRESSES, AddressVector, REFUSED_ADDRESSES, REFUSED_CALLS};
 use crate::net_calls::{NET_CALLS, NetCallVector, REFUSED_NET_CALLS};

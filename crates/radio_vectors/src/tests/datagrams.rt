@@ -1,4 +1,4 @@
-//! Datagrams.
+//! Datagrams. Called by `rt test`.
 use super::{call, expect};
 use crate::datagrams::{DATAGRAMS, DatagramVector, REFUSED_DATAGRAMS};
 use l3_datagram::{DatagramHead, HEAD_SIZE, read_datagram, write_datagram};

@@ -1,4 +1,4 @@
-//! Control fields and whole frames.
+//! Control fields and whole frames. Called by `rt test`.
 ghost use Rattle.ax_frame.specs.Controls.{IsLinkModulus};
 ghost use Rattle.ax_frame.specs.Frames.{HasParts};
 

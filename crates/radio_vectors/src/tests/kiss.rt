@@ -1,4 +1,4 @@
-//! Frames of KISS.
+//! Frames of KISS. Called by `rt test`.
 use super::expect;
 use crate::kiss::{KISS_FRAMES, KISS_STREAMS, KissFrame};
 use arrayvec::ArrayVec;

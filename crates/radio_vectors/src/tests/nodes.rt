@@ -1,4 +1,4 @@
-//! NODES broadcasts.
+//! NODES broadcasts. Called by `rt test`.
 use super::{alias, call, expect};
 use crate::nodes::{NODES, NodesVector, REFUSED_NODES};
 use arrayvec::ArrayVec;

@@ -1,4 +1,4 @@
-//! Segments of messages.
+//! Segments of messages. Called by `rt test`.
 use super::expect;
 use crate::segments::{SEGMENTS, SegmentsVector};
 use ax_segment::{Joined, Joiner, Split};

@@ -1,4 +1,4 @@
-//! Transports.
+//! Transports. Called by `rt test`.
 use super::{call, expect};
 use crate::transports::{REFUSED_TRANSPORTS, Said, TRANSPORTS, TransportVector};
 use arrayvec::ArrayVec;

@@ -1,4 +1,4 @@
-//! The calls that a station doesn't hear.
+//! The calls that a station doesn't hear. Called by `station`.
 ghost use Rattle.std.specs.Prelude.{◌≡◌, ◌≤◌, ◌+◌, [], length, map, option_map, Ok, Err, MatchResult};
 ghost use Rattle.toml.specs.View.{view};
 ghost use Rattle.station_file.specs.Items as lists;

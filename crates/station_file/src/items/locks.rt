@@ -1,4 +1,4 @@
-//! The routes that a node locks in.
+//! The routes that a node locks in. Called by `nodes`.
 ghost use Rattle.std.specs.Prelude.{◌≡◌, ◌≤◌, ◌+◌, [], length, map, option_map, Ok, Err, MatchResult};
 ghost use Rattle.toml.specs.View.{view};
 ghost use Rattle.text_lines.specs.Lines.{words_of};

@@ -1,4 +1,4 @@
-//! The ports on which a node stands.
+//! The ports on which a node stands. Called by `nodes`, and by `beacons` for a beacon's own.
 ghost use Rattle.std.specs.Prelude.{◌≡◌, ◌≤◌, ◌+◌, [], length, map, option_map, Ok, Err, MatchResult};
 ghost use Rattle.toml.specs.View.{view};
 ghost use Rattle.station_file.specs.Items as lists;

@@ -1,4 +1,4 @@
-//! The neighbours of a node that have a quality of their own.
+//! The neighbours of a node that have a quality of their own. Called by `nodes`.
 ghost use Rattle.std.specs.Prelude.{◌≡◌, ◌≤◌, ◌+◌, [], length, map, option_map, Ok, Err, MatchResult};
 ghost use Rattle.toml.specs.View.{view};
 ghost use Rattle.text_lines.specs.Lines.{words_of};
