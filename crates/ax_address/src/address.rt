@@ -1,8 +1,6 @@
 //! One address of a frame, and the path of its repeaters (AX.25 2.2, section 3.12). Used by `octets`, and by `ax_frame`, `digi_path` and
 //! crates above.
-ghost use Rattle.std.specs.Prelude.{◌≡◌, ◌≤◌};
-ghost use Rattle.ax_address.specs.Callsign.{IsCall};
-ghost use Rattle.ax_address.specs.Octets as octet;
+ghost use Rattle.std.specs.Prelude.{◌≤◌};
 
 use crate::Call;
 use arrayvec::ArrayVec;
@@ -25,18 +23,6 @@ impl Default for Address {
             bit7: false,
             reserved: 3,
         }
-    }
-}
-
-/// The address of a call with this C or H bit, as it is written: both reserved bits are 1.
-pub fn address_of(call: Call, bit7: bool) -> Address
-    ensures value { result ≡ octet.address_of call bit7 }
-    ensures call { IsCall call }
-{
-    Address {
-        call,
-        bit7,
-        reserved: 3,
     }
 }
 

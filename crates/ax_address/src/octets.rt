@@ -1,12 +1,26 @@
-//! Addresses as frames spell them (AX.25 2.2, section 3.12). Called by `net_calls`, and by `ax_frame` and `circuit_l4`.
+//! Addresses as frames spell them (AX.25 2.2, section 3.12). Called by `net_calls`, and by `ax_frame`, `circuit_l4` and
+//! the crates above that write frames.
 ghost use Rattle.std.specs.Prelude.{◌≡◌, ◌<◌, ◌≤◌, ◌/◌, ◌*◌, take, drop, map, length, IfOk, IfErr, IfSome, Ok, None, Bool};
 ghost use Rattle.std.specs.List.{prefix_len};
 ghost use Rattle.std.specs.Result.{result_err};
+ghost use Rattle.ax_address.specs.Callsign.{IsCall};
 ghost use Rattle.ax_address.specs.Octets as octet;
 ghost use Rattle.ax_address.specs.declared.address.Address.{Address};
 
 use crate::address_refusal::AddressRefusal;
 use crate::{Address, Call};
+
+/// The address of a call with this C or H bit, as it is written: both reserved bits are 1.
+pub fn address_of(call: Call, bit7: bool) -> Address
+    ensures value { result ≡ octet.address_of call bit7 }
+    ensures call { IsCall call }
+{
+    Address {
+        call,
+        bit7,
+        reserved: 3,
+    }
+}
 
 /// The first octet that can't stand at its place, of the six for characters, or of fewer where some of
 /// the six are missing.
