@@ -5,6 +5,7 @@ use Rattle.std.specs.List.{AllByRecursion}
 use Rattle.std.proofs.lemmas.Bool.{or_parts, or_from}
 use Rattle.radio_base.specs.declared.payload.Payload.{Payload}
 use Rattle.radio_base.specs.Modulus.{place_of}
+use Rattle.radio_base.proofs.Each.{each_drop}
 use Rattle.ax_link.specs.declared.kind.Kind.{Kind}
 use Rattle.ax_link.specs.declared.kind.Kind.TheVariants as kind
 use Rattle.ax_link.specs.declared.phase.LinkPhase.{LinkPhase}
@@ -15,10 +16,6 @@ use Rattle.ax_link.specs.Table.{Input, Set_up, Send, Arrive, Tick, Close, Take, 
 use Rattle.ax_link.specs.Bounds.{Bounded, Stock, stock, Brings, Has, HasIf, HavePayloads}
 use Rattle.ax_link.proofs.Ways.{place_in}
 use Rattle.ax_link.proofs.PutOut.{IsPut, IsPutOut, some, with_sent, with_acked, room_for, with_next, with_early, with_given, with_rest, emptied}
-
-pub all_drop : {A : Type 0} (P : A → Type 0) (xs : List A) → AllByRecursion P xs → AllByRecursion P (drop 1 xs)
-all_drop P [] a = tt
-all_drop P (x ∷ xs) a = a.1
 
 module _ (given came : Payload → Bool) where
   abbrev Holds : Stock → Type 0
@@ -185,7 +182,7 @@ module _ (given came : Payload → Bool) where
           given = x.1.given;
           received = all_snoc (Has came) s.received (p ∷ []) x.1.received (a, tt);
           inbox = all_snoc (Has came) s.inbox (p ∷ []) x.1.inbox (a, tt);
-          early = all_drop (HasIf came) (s.early ++ None ∷ []) (all_snoc (HasIf came) s.early (None ∷ []) x.1.early (tt, tt));
+          early = each_drop (HasIf came) (s.early ++ None ∷ []) (all_snoc (HasIf came) s.early (None ∷ []) x.1.early (tt, tt));
         },
       )
 
@@ -415,5 +412,5 @@ module _ (given came : Payload → Bool) where
       good_if (may_close s.phase) (close_in_turn now (begin s)) (begin s) (good_finish now (begin (record s { closing = true })) (begun s x)) (begun s x)
   good_step now s Take a x =
       let rest : State = record s { inbox = drop 1 s.inbox } in
-      let y : Good (begin rest) = ((with_rest (stock s) x.0, record { given = x.1.given; received = x.1.received; inbox = all_drop (Has came) s.inbox x.1.inbox; early = x.1.early }), tt) in
+      let y : Good (begin rest) = ((with_rest (stock s) x.0, record { given = x.1.given; received = x.1.received; inbox = each_drop (Has came) s.inbox x.1.inbox; early = x.1.early }), tt) in
       good_if (is_up s.phase && busy s) (resume (begin rest)) (begin rest) (good_resumed (begin rest) y) y

@@ -1,13 +1,12 @@
 -- What comes up came, and what is sent was offered.
 use Rattle.std.proofs.Common.{◌≡◌, ℕ, zero, suc, ◌==◌, Bool, true, false, nat_le, List, [], ◌∷◌, ◌++◌, length, map, Option, Some, None, slice_get, refl, ap, sym, ◌∙◌, subst, if◌then◌else◌, ◌&&◌, replicate, inl, inr, is_some}
 use Rattle.std.specs.Prelude.{◌⊎◌, is_ok}
-use Rattle.ax_link.proofs.PutSteps.{all_drop}
 use Rattle.ax_link.specs.declared.config.LinkConfig.{LinkConfig}
 use Rattle.std.proofs.lemmas.Bool.{eqb-true}
 use Rattle.std.specs.List.{AllByRecursion}
 use Rattle.arrayvec.specs.ArrayVec.{ArrayVec}
 use Rattle.radio_base.specs.declared.payload.Payload.{Payload}
-use Rattle.radio_base.proofs.Each.{each_append}
+use Rattle.radio_base.proofs.Each.{each_append, each_drop}
 use Rattle.ax_address.specs.Callsign.{Callsign, same_call}
 use Rattle.ax_address.specs.declared.address.Address.{Address}
 use Rattle.ax_address.proofs.SameCalls.{same_call-true}
@@ -384,8 +383,8 @@ module _ (law : PayloadsStay) (bounds_stay : BoundsStay) (settings_stay : Settin
         takes = λ t peer now x. text_taken_carries peer now t x;
         sends = λ t peer text now x. text_sent_carries peer text now t x;
         offers = λ t to d now a x. offer_carries to d now t a x;
-        collects = λ t x. record { modulus = x.modulus; size = x.size; links = x.links; waiting = all_drop (ParcelCame offered came sizes) t.pending.waiting x.waiting; frames = x.frames };
+        collects = λ t x. record { modulus = x.modulus; size = x.size; links = x.links; waiting = each_drop (ParcelCame offered came sizes) t.pending.waiting x.waiting; frames = x.frames };
         tells_lost = λ t x. record { modulus = x.modulus; size = x.size; links = x.links; waiting = x.waiting; frames = x.frames };
         notices = λ t x. record { modulus = x.modulus; size = x.size; links = x.links; waiting = x.waiting; frames = x.frames };
-        fetches = λ t x. record { modulus = x.modulus; size = x.size; links = x.links; waiting = x.waiting; frames = all_drop (FrameHolds offered came sizes) t.pending.frames x.frames };
+        fetches = λ t x. record { modulus = x.modulus; size = x.size; links = x.links; waiting = x.waiting; frames = each_drop (FrameHolds offered came sizes) t.pending.frames x.frames };
       }
