@@ -21,8 +21,6 @@ pub const MAX_MEMBERS: usize = 8;
 pub const MAX_SETTINGS: usize = 18;
 /// The most peers that a node reaches over repeaters.
 pub const MAX_VIAS: usize = 16;
-/// The most repeaters over which a node reaches a peer.
-pub const MAX_VIA_REPEATERS: usize = 2;
 /// The most neighbours of a node that have a quality of their own.
 pub const MAX_QUALITIES: usize = 16;
 /// The most routes that a node locks in.
