@@ -3,6 +3,7 @@ use Rattle.std.proofs.Common.{◌≡◌, ◌∙◌, ◌+◌, ◌≤◌, ℕ, ref
 use Rattle.std.specs.Prelude.{◌≢◌, ◌==◌, ◌⊎◌, nat_eq, nat_lt, slice_get, slice_set, if◌then◌else◌, Option, Some, None, Result, Ok, Err}
 use Rattle.std.specs.List.{AllByRecursion}
 use Rattle.std.proofs.lemmas.Bool.{ltb-false}
+use Rattle.radio_base.specs.declared.modulus.LinkModulus.{LinkModulus}
 use Rattle.ax_address.specs.Callsign.{Callsign}
 use Rattle.ax_frame.specs.Frames.{IsAddress}
 use Rattle.circuit_l4.specs.declared.pair.Pair.{Pair}
@@ -237,31 +238,31 @@ module _ (plan : Plan) (size : ℕ) (apart : AreApart (names (new_nodes plan))) 
       → AllByRecursion (Offered (offers_traced (here air p) ds)) (borne_in size f.octets.items) × IsAloft size (borne_in size f.octets.items) f.octets.items
   bears air new ds p f x = further.bears size (offers_traced (here air p) ds) f.octets.items modulus x
 
-  new_frames : (air : List Aired) (ds : List (List ℕ)) (p : Placed) (came128 : Bool) (fs : List Written) → AllByRecursion (λ (f : Written). IsOfNode (here air p) ds f.octets.items) fs
-      → AllByRecursion (λ (f : Aired). (f.sender ≡ p.declared.node) × AllByRecursion (Offered (offers_traced (here air p) ds)) (borne_in size f.octets.items)) (map (aired_as p.declared.node came128) fs)
-  new_frames air ds p came128 [] a = tt
-  new_frames air ds p came128 (f ∷ fs) a = ((refl, (bears air [] ds p f a.0).0), new_frames air ds p came128 fs a.1)
+  new_frames : (air : List Aired) (ds : List (List ℕ)) (p : Placed) (came : LinkModulus) (fs : List Written) → AllByRecursion (λ (f : Written). IsOfNode (here air p) ds f.octets.items) fs
+      → AllByRecursion (λ (f : Aired). (f.sender ≡ p.declared.node) × AllByRecursion (Offered (offers_traced (here air p) ds)) (borne_in size f.octets.items)) (map (aired_as p.declared.node came) fs)
+  new_frames air ds p came [] a = tt
+  new_frames air ds p came (f ∷ fs) a = ((refl, (bears air [] ds p f a.0).0), new_frames air ds p came fs a.1)
 
-  new_aloft : (air : List Aired) (ds : List (List ℕ)) (p : Placed) (came128 : Bool) (fs : List Written) → AllByRecursion (λ (f : Written). IsOfNode (here air p) ds f.octets.items) fs
-      → AirFlies (map (aired_as p.declared.node came128) fs)
-  new_aloft air ds p came128 [] a = tt
-  new_aloft air ds p came128 (f ∷ fs) a =
-      let rest : List Aired = map (aired_as p.declared.node came128) fs in
+  new_aloft : (air : List Aired) (ds : List (List ℕ)) (p : Placed) (came : LinkModulus) (fs : List Written) → AllByRecursion (λ (f : Written). IsOfNode (here air p) ds f.octets.items) fs
+      → AirFlies (map (aired_as p.declared.node came) fs)
+  new_aloft air ds p came [] a = tt
+  new_aloft air ds p came (f ∷ fs) a =
+      let rest : List Aired = map (aired_as p.declared.node came) fs in
       let first : List Borne = borne_in size f.octets.items in (
         further.aloft size first (all_borne size rest) f.octets.items (bears air [] ds p f a.0).1,
         every (λ (g : Aired). IsAloft size (all_borne size rest) g.octets.items) (λ (g : Aired). IsAloft size (first ++ all_borne size rest) g.octets.items)
-            (λ g x. further.behind size first (all_borne size rest) g.octets.items x) rest (new_aloft air ds p came128 fs a.1),
+            (λ g x. further.behind size first (all_borne size rest) g.octets.items x) rest (new_aloft air ds p came fs a.1),
       )
 
-  aired_new : (air : List Aired) (ds : List (List ℕ)) (came128 b : Bool) (p : Placed) → NodeFlies air ds p
+  aired_new : (air : List Aired) (ds : List (List ℕ)) (came : LinkModulus) (b : Bool) (p : Placed) → NodeFlies air ds p
       → AllByRecursion (λ (f : Aired). (f.sender ≡ p.declared.node) × AllByRecursion (Offered (offers_traced (here air p) ds)) (borne_in size f.octets.items))
-      (if b then map (aired_as p.declared.node came128) (frames p.state.station) else [])
-  aired_new air ds came128 true p f = new_frames air ds p came128 (frames p.state.station) (further.frames (here air p) ds p.state.station f.0)
-  aired_new air ds came128 false p f = tt
+      (if b then map (aired_as p.declared.node came) (frames p.state.station) else [])
+  aired_new air ds came true p f = new_frames air ds p came (frames p.state.station) (further.frames (here air p) ds p.state.station f.0)
+  aired_new air ds came false p f = tt
 
-  aired_aloft : (air : List Aired) (ds : List (List ℕ)) (came128 b : Bool) (p : Placed) → NodeFlies air ds p → AirFlies (if b then map (aired_as p.declared.node came128) (frames p.state.station) else [])
-  aired_aloft air ds came128 true p f = new_aloft air ds p came128 (frames p.state.station) (further.frames (here air p) ds p.state.station f.0)
-  aired_aloft air ds came128 false p f = tt
+  aired_aloft : (air : List Aired) (ds : List (List ℕ)) (came : LinkModulus) (b : Bool) (p : Placed) → NodeFlies air ds p → AirFlies (if b then map (aired_as p.declared.node came) (frames p.state.station) else [])
+  aired_aloft air ds came true p f = new_aloft air ds p came (frames p.state.station) (further.frames (here air p) ds p.state.station f.0)
+  aired_aloft air ds came false p f = tt
 
   -- a node goes on where more is in the air
   node_more : (air new : List Aired) (ds : List (List ℕ)) (p : Placed) → NodeFlies air ds p → NodeFlies (air ++ new) ds p
@@ -280,12 +281,12 @@ module _ (plan : Plan) (size : ℕ) (apart : AreApart (names (new_nodes plan))) 
       (every (λ (f : Aired). IsAloft size (all_borne size new) f.octets.items) (λ (f : Aired). IsAloft size (all_borne size air ++ all_borne size new) f.octets.items)
       (λ f x. further.behind size (all_borne size air) (all_borne size new) f.octets.items x) new b))
 
-  put_by : (line at : ℕ) (came128 : Bool) (w : World) (o : Option Placed) → slice_get w.nodes at ≡ o → Goes w (put_of line at came128 o w)
-  put_by line at came128 w None e = still w
-  put_by line at came128 w (Some p) e =
-      at_once w (put_of line at came128 (Some p) w)
+  put_by : (line at : ℕ) (came : LinkModulus) (w : World) (o : Option Placed) → slice_get w.nodes at ≡ o → Goes w (put_of line at came o w)
+  put_by line at came w None e = still w
+  put_by line at came w (Some p) e =
+      at_once w (put_of line at came (Some p) w)
       (λ steps f. (let t : TracksAt plan w.told (sets_run (first_sets plan) steps) at p = f.contains.tracks at p e in
-      let new : List Aired = aired w.channels came128 p in
+      let new : List Aired = aired w.channels came p in
       let es : List Event = air_events (length w.air) (length new) in
       let q : Placed = record p { state = all_fetched_of p.state } in
       let ds : List (List ℕ) = sent_at at (told steps) in
@@ -298,15 +299,15 @@ module _ (plan : Plan) (size : ℕ) (apart : AreApart (names (new_nodes plan))) 
         came = steps_within plan size [] w.air (w.air ++ new) (within_more w.air new) (first_sets plan) steps f.came;
         nodes = λ i x g. beside (λ k r. NodeFlies w.air (sent_at k (told steps)) r) (λ k r. NodeFlies (w.air ++ new) (sent_at k (told steps)) r) w.nodes at p q e f.nodes
             (λ k r n y. node_more w.air new (sent_at k (told steps)) r y) (node_more w.air new ds q mine) i x g (nat_eq at i) refl;
-        air = air_both w.air new f.air (aired_aloft w.air ds came128 (is_on_air w.channels p.declared.node) p (f.nodes at p e));
+        air = air_both w.air new f.air (aired_aloft w.air ds came (is_on_air w.channels p.declared.node) p (f.nodes at p e));
         known = new_known plan size (told steps) w.air new at p.declared (named steps w at p f e)
             (named_alike (by_number plan.declared 1 16) at p.declared (told steps) (named steps w at p f e) (all_named steps w f)) f.known
-            (aired_new w.air ds came128 (is_on_air w.channels p.declared.node) p (f.nodes at p e));
+            (aired_new w.air ds came (is_on_air w.channels p.declared.node) p (f.nodes at p e));
       }))
 
-  puts_go : (line at : ℕ) (came128 : Bool) (w : World) → Goes w (put line at came128 w)
+  puts_go : (line at : ℕ) (came : LinkModulus) (w : World) → Goes w (put line at came w)
   unfolding put
-  puts_go line at came128 w = put_by line at came128 w (slice_get w.nodes at) refl
+  puts_go line at came w = put_by line at came w (slice_get w.nodes at) refl
 
   -- ---- a node starts
 

@@ -1,7 +1,8 @@
 -- A line that starts no node again tells of no such start.
-use Rattle.std.proofs.Common.{ℕ, zero, suc, List, [], ◌∷◌, length, map, Bool}
+use Rattle.std.proofs.Common.{ℕ, zero, suc, List, [], ◌∷◌, length, map}
 use Rattle.std.specs.Prelude.{slice_get, Option, Some, None}
 use Rattle.std.specs.List.{AllByRecursion}
+use Rattle.radio_base.specs.declared.modulus.LinkModulus.{LinkModulus}
 use Rattle.ax_address.specs.Callsign.{Callsign}
 use Rattle.circuit_l4.specs.declared.pair.Pair.{Pair}
 use Rattle.network_file.specs.declared.plan.instructions.NumberedInstruction.{NumberedInstruction}
@@ -54,14 +55,14 @@ reach_on : (line at : ℕ) (input : Input) (w : World) → Stays w (reach line a
 unfolding reach
 reach_on line at input w = reach_by line at input w (slice_get w.nodes at)
 
-put_by : (line at : ℕ) (came128 : Bool) (w : World) (o : Option Placed) → Stays w (put_of line at came128 o w)
-put_by line at came128 w None a = a
-put_by line at came128 w (Some p) a =
-    on_both w.told (map (numbered line) (air_events (length w.air) (length (aired w.channels came128 p)))) a (air_on line (length w.air) (length (aired w.channels came128 p)))
+put_by : (line at : ℕ) (came : LinkModulus) (w : World) (o : Option Placed) → Stays w (put_of line at came o w)
+put_by line at came w None a = a
+put_by line at came w (Some p) a =
+    on_both w.told (map (numbered line) (air_events (length w.air) (length (aired w.channels came p)))) a (air_on line (length w.air) (length (aired w.channels came p)))
 
-put_on : (line at : ℕ) (came128 : Bool) (w : World) → Stays w (put line at came128 w)
+put_on : (line at : ℕ) (came : LinkModulus) (w : World) → Stays w (put line at came w)
 unfolding put
-put_on line at came128 w = put_by line at came128 w (slice_get w.nodes at)
+put_on line at came w = put_by line at came w (slice_get w.nodes at)
 
 -- ---- the lines
 

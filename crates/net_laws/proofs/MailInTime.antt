@@ -2,6 +2,7 @@
 use Rattle.std.proofs.Common.{◌≡◌, ◌≤◌, ◌∙◌, ℕ, zero, suc, refl, sym, ap, subst, arith, List, [], ◌∷◌, ◌++◌, append-nil, map, Bool, true, false, cond}
 use Rattle.std.specs.Prelude.{◌&&◌, ◌==◌, slice_get, Some, None, Ok, is_some}
 use Rattle.std.specs.List.{AllByRecursion}
+use Rattle.radio_base.specs.declared.modulus.LinkModulus.TheVariants.{Modulo8}
 use Rattle.ax_address.specs.Callsign.{Callsign, same_call}
 use Rattle.circuit_set.specs.ByBook.{FreshByBook, PartnersByBook, TimelyBy128, TimelyByBook}
 use Rattle.circuit_table.specs.CircuitSets.{held_ids}
@@ -116,7 +117,7 @@ module _ (plan : Plan) (apart : AreApart (names (new_nodes plan))) (are_steps : 
     still = moves.still plan apart are_steps bytes ticks acts_run wrote_law stay starts calls prompts;
     follows = moves.follows plan apart are_steps bytes ticks acts_run wrote_law stay starts calls prompts;
     tells = moves.tells plan apart are_steps bytes ticks acts_run wrote_law stay starts calls prompts;
-    puts = λ line at w. moves.puts plan apart are_steps bytes ticks acts_run wrote_law stay starts calls prompts line at false w;
+    puts = λ line at w. moves.puts plan apart are_steps bytes ticks acts_run wrote_law stay starts calls prompts line at Modulo8 w;
     takes = turns.takes plan apart are_steps bytes ticks acts_run wrote_law stay starts calls prompts partners fresh_law face safe last;
     offers = turns.offers plan apart are_steps bytes ticks acts_run wrote_law stay starts calls prompts;
     posts = turns.posts plan apart are_steps bytes ticks acts_run wrote_law stay starts calls prompts;

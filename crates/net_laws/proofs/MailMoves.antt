@@ -2,6 +2,7 @@
 use Rattle.std.proofs.Common.{◌≡◌, ◌∙◌, ◌+◌, ℕ, zero, suc, refl, sym, ap, subst, arith, List, [], ◌∷◌, ◌++◌, append_assoc, append-nil, length, map, filter, Bool, true, false, cond, inl, inr}
 use Rattle.std.specs.Prelude.{◌⊎◌, ◌&&◌, ◌==◌, nat_eq, slice_get, slice_set, Option, Some, None, is_some, Result, Ok, Err}
 use Rattle.std.specs.List.{AllByRecursion}
+use Rattle.radio_base.specs.declared.modulus.LinkModulus.{LinkModulus}
 use Rattle.ax_address.specs.Callsign.{Callsign, same_call}
 use Rattle.circuit_l4.specs.declared.pair.Pair.{Pair}
 use Rattle.circuit_set.specs.Facing.{EndsStay}
@@ -273,24 +274,24 @@ module _ (plan : Plan) (apart : AreApart (names (new_nodes plan))) (are_steps : 
       at_once w v steps (subst (λ es. Contains plan steps v.nodes es) (sym told) (subst (λ ns. Contains plan steps ns w.told) (sym nodes) c)) (same_holds steps w v nodes mails)
 
   -- frames are put in the air
-  put_case : (line at : ℕ) (came128 : Bool) (w : World) (steps : List Step) → Contains plan steps w.nodes w.told → (o : Option Placed) → slice_get w.nodes at ≡ o
-      → (let v : World = put_of line at came128 o w in Contains plan steps v.nodes v.told × ((m : MailRun) → EachKeeps m w → EachKeeps m v))
-  put_case line at came128 w steps c None e = (c, λ m all. all)
-  put_case line at came128 w steps c (Some p) e =
-      let v : World = put_of line at came128 (Some p) w in (
-        subst (λ ss. Contains plan ss v.nodes v.told) (append-nil steps) (put_contains plan apart are_steps bytes ticks acts_run line at came128 w p e steps c),
+  put_case : (line at : ℕ) (came : LinkModulus) (w : World) (steps : List Step) → Contains plan steps w.nodes w.told → (o : Option Placed) → slice_get w.nodes at ≡ o
+      → (let v : World = put_of line at came o w in Contains plan steps v.nodes v.told × ((m : MailRun) → EachKeeps m w → EachKeeps m v))
+  put_case line at came w steps c None e = (c, λ m all. all)
+  put_case line at came w steps c (Some p) e =
+      let v : World = put_of line at came (Some p) w in (
+        subst (λ ss. Contains plan ss v.nodes v.told) (append-nil steps) (put_contains plan apart are_steps bytes ticks acts_run line at came w p e steps c),
         λ m all. replaced m w v at p (all_fetched_of p.state) e refl refl (all at p e).prompt all,
       )
 
-  pub put_stays : (line at : ℕ) (came128 : Bool) (w : World) (steps : List Step) → Contains plan steps w.nodes w.told
-      → (let v : World = put line at came128 w in Contains plan steps v.nodes v.told × ((m : MailRun) → EachKeeps m w → EachKeeps m v))
+  pub put_stays : (line at : ℕ) (came : LinkModulus) (w : World) (steps : List Step) → Contains plan steps w.nodes w.told
+      → (let v : World = put line at came w in Contains plan steps v.nodes v.told × ((m : MailRun) → EachKeeps m w → EachKeeps m v))
   unfolding put
-  put_stays line at came128 w steps c = put_case line at came128 w steps c (slice_get w.nodes at) refl
+  put_stays line at came w steps c = put_case line at came w steps c (slice_get w.nodes at) refl
 
-  pub puts : (line at : ℕ) (came128 : Bool) (w : World) → Mails w (put line at came128 w)
-  puts line at came128 w steps c =
-      let r = put_stays line at came128 w steps c in
-      at_once w (put line at came128 w) steps r.0 (λ h. record { run = h.run; reached = h.reached; nodes = r.1 h.run h.nodes; wrote = h.wrote })
+  pub puts : (line at : ℕ) (came : LinkModulus) (w : World) → Mails w (put line at came w)
+  puts line at came w steps c =
+      let r = put_stays line at came w steps c in
+      at_once w (put line at came w) steps r.0 (λ h. record { run = h.run; reached = h.reached; nodes = r.1 h.run h.nodes; wrote = h.wrote })
 
   -- ---- something reaches a node
 

@@ -2,6 +2,8 @@
 use Rattle.std.proofs.Common.{◌≡◌, ◌∙◌, ◌+◌, ℕ, zero, suc, refl, sym, ap, subst, List, [], ◌∷◌, ◌++◌, append_assoc, append-nil, drop, length, map, Bool, true, false, cond, inr}
 use Rattle.std.specs.Prelude.{◌&&◌, ◌==◌, nat_lt, slice_get, slice_set, Option, Some, None, is_none, is_some, Result, Ok, Err}
 use Rattle.std.specs.List.{AllByRecursion}
+use Rattle.radio_base.specs.declared.modulus.LinkModulus.{LinkModulus}
+use Rattle.radio_base.specs.declared.modulus.LinkModulus.TheVariants.{Modulo8}
 use Rattle.ax_address.specs.Callsign.{Callsign, IsCallsign}
 use Rattle.circuit_l4.specs.Halves.{first_or}
 use Rattle.circuit_l4.specs.State.{inbox, is_up}
@@ -129,13 +131,13 @@ ends_put (x ∷ nodes) zero p q e same (suc k) = refl
 ends_put (x ∷ nodes) (suc at) p q e same zero = refl
 ends_put (x ∷ nodes) (suc at) p q e same (suc k) = ends_put nodes at p q e same k
 
-put_ends_case : (line at : ℕ) (came128 : Bool) (w : World) (k : ℕ) (o : Option Placed) → slice_get w.nodes at ≡ o → ends_here k (put_of line at came128 o w) ≡ ends_here k w
-put_ends_case line at came128 w k None e = refl
-put_ends_case line at came128 w k (Some p) e = ends_put w.nodes at p (record p { state = worlds.all_fetched_of p.state }) e refl k
+put_ends_case : (line at : ℕ) (came : LinkModulus) (w : World) (k : ℕ) (o : Option Placed) → slice_get w.nodes at ≡ o → ends_here k (put_of line at came o w) ≡ ends_here k w
+put_ends_case line at came w k None e = refl
+put_ends_case line at came w k (Some p) e = ends_put w.nodes at p (record p { state = worlds.all_fetched_of p.state }) e refl k
 
-put_ends : (line at : ℕ) (came128 : Bool) (w : World) (k : ℕ) → ends_here k (put line at came128 w) ≡ ends_here k w
+put_ends : (line at : ℕ) (came : LinkModulus) (w : World) (k : ℕ) → ends_here k (put line at came w) ≡ ends_here k w
 unfolding put
-put_ends line at came128 w k = put_ends_case line at came128 w k (slice_get w.nodes at) refl
+put_ends line at came w k = put_ends_case line at came w k (slice_get w.nodes at) refl
 
 -- ---- runs
 
@@ -277,15 +279,15 @@ module _ (plan : Plan) (apart : AreApart (names (new_nodes plan))) (are_steps : 
   reach_writes line at id text w steps c = reach_case line at id text w steps (slice_get w.nodes at) refl c
 
   put_stays : (line at : ℕ) (w : World) (steps : List Step) → Contains plan steps w.nodes w.told
-      → (let v : World = put line at false w in Contains plan steps v.nodes v.told × ((m : MailRun) → Kept m w → Kept m v))
-  put_stays line at w steps c = moves.put_stays plan apart are_steps bytes ticks acts_run wrote_law stay starts calls prompts line at false w steps c
+      → (let v : World = put line at Modulo8 w in Contains plan steps v.nodes v.told × ((m : MailRun) → Kept m w → Kept m v))
+  put_stays line at w steps c = moves.put_stays plan apart are_steps bytes ticks acts_run wrote_law stay starts calls prompts line at Modulo8 w steps c
 
   -- an input of an agent
   input_writes : (line at id : ℕ) (text : List ℕ) (w : World) (steps : List Step) → Contains plan steps w.nodes w.told → Writing at id text steps w (input line at (acts.Write id text) w)
   input_writes line at id text w steps c =
-      let v : World = put line at false w in
+      let v : World = put line at Modulo8 w in
       let r = put_stays line at w steps c in
-      let mails : v.mails ≡ w.mails = put_mails line at false w in
+      let mails : v.mails ≡ w.mails = put_mails line at Modulo8 w in
       let b : Writing at id text steps v (reach line at (worlds.Act (acts.Write id text)) v) = reach_writes line at id text v steps r.0 in record {
         more = b.more;
         contains = b.contains;
@@ -621,6 +623,6 @@ module _ (plan : Plan) (apart : AreApart (names (new_nodes plan))) (are_steps : 
     pub takes : (line node at id : ℕ) (a : Agent) → Goes_on a.world (take_then line node at id (λ b. b) a).world
     unfolding reach answer
     takes line node at id a steps c =
-        let w : World = put line at false a.world in
+        let w : World = put line at Modulo8 a.world in
         let r = put_stays line at a.world steps c in
-        node_case line node at id a w steps r.0 r.1 (put_ends line at false a.world at) (slice_get w.nodes at) refl
+        node_case line node at id a w steps r.0 r.1 (put_ends line at Modulo8 a.world at) (slice_get w.nodes at) refl

@@ -1,7 +1,8 @@
 -- The moves of a world are runs of its nodes' circuits.
-use Rattle.std.proofs.Common.{◌≡◌, ◌∙◌, ◌+◌, ◌≤◌, ℕ, zero, suc, refl, sym, ap, subst, arith, List, [], ◌∷◌, ◌++◌, length, append_assoc, append-nil, map, Bool}
+use Rattle.std.proofs.Common.{◌≡◌, ◌∙◌, ◌+◌, ◌≤◌, ℕ, zero, suc, refl, sym, ap, subst, arith, List, [], ◌∷◌, ◌++◌, length, append_assoc, append-nil, map}
 use Rattle.std.specs.Prelude.{slice_get, slice_set, Option, Some, None}
 use Rattle.std.specs.List.{AllByRecursion}
+use Rattle.radio_base.specs.declared.modulus.LinkModulus.{LinkModulus}
 use Rattle.circuit_l4.specs.declared.pair.Pair.{Pair}
 use Rattle.circuit_table.specs.Pumps.{runs, at_rest}
 use Rattle.circuit_table.specs.Pairs.{IsPair}
@@ -127,21 +128,21 @@ module _ (plan : Plan) (apart : AreApart (names (new_nodes plan))) (are_steps : 
     others = λ n d. ap length (note_append n told (map (numbered line) es) []) ∙ quiet_notes n line es (ends_of n told) quiet;
   }
 
-  pub put_contains : (line at : ℕ) (came128 : Bool) (w : World) (p : Placed) → slice_get w.nodes at ≡ Some p → (steps : List Step) → Contains plan steps w.nodes w.told
-      → Contains plan (steps ++ []) (put_of line at came128 (Some p) w).nodes (put_of line at came128 (Some p) w).told
-  put_contains line at came128 w p e steps c =
+  pub put_contains : (line at : ℕ) (came : LinkModulus) (w : World) (p : Placed) → slice_get w.nodes at ≡ Some p → (steps : List Step) → Contains plan steps w.nodes w.told
+      → Contains plan (steps ++ []) (put_of line at came (Some p) w).nodes (put_of line at came (Some p) w).told
+  put_contains line at came w p e steps c =
       let t : TracksAt plan w.told (sets_run (first_sets plan) steps) at p = c.tracks at p e in
-      let es : List Event = air_events (length w.air) (length (aired w.channels came128 p)) in
+      let es : List Event = air_events (length w.air) (length (aired w.channels came p)) in
       comes_contains plan apart are_steps steps w.nodes w.told (map (numbered line) es) at p (record p { state = all_fetched_of p.state }) t.set [] c e t.here
-      (put_comes w.told line at p t.set es (quiet_air (length w.air) (length (aired w.channels came128 p))) t.tracks)
+      (put_comes w.told line at p t.set es (quiet_air (length w.air) (length (aired w.channels came p))) t.tracks)
 
-  put_case : (line at : ℕ) (came128 : Bool) (w : World) (o : Option Placed) → slice_get w.nodes at ≡ o → Leads w (put_of line at came128 o w)
-  put_case line at came128 w None e steps c = still w steps c
-  put_case line at came128 w (Some p) e steps c = ([], put_contains line at came128 w p e steps c)
+  put_case : (line at : ℕ) (came : LinkModulus) (w : World) (o : Option Placed) → slice_get w.nodes at ≡ o → Leads w (put_of line at came o w)
+  put_case line at came w None e steps c = still w steps c
+  put_case line at came w (Some p) e steps c = ([], put_contains line at came w p e steps c)
 
-  pub put_leads : (line at : ℕ) (came128 : Bool) (w : World) → Leads w (put line at came128 w)
+  pub put_leads : (line at : ℕ) (came : LinkModulus) (w : World) → Leads w (put line at came w)
   unfolding put
-  put_leads line at came128 w = put_case line at came128 w (slice_get w.nodes at) refl
+  put_leads line at came w = put_case line at came w (slice_get w.nodes at) refl
 
   -- a node starts again
   pub restart_comes : (steps : List Step) (w : World) (line at : ℕ) (pair : Pair) (p : Placed) → IsPair pair → Contains plan steps w.nodes w.told → slice_get w.nodes at ≡ Some p

@@ -1,7 +1,8 @@
 -- Each node of a network is what inputs have led to from a start of it.
-use Rattle.std.proofs.Common.{◌≡◌, ◌∙◌, ◌+◌, ℕ, zero, suc, refl, sym, ap, subst, List, [], ◌∷◌, ◌++◌, length, map, filter, Bool}
+use Rattle.std.proofs.Common.{◌≡◌, ◌∙◌, ◌+◌, ℕ, zero, suc, refl, sym, ap, subst, List, [], ◌∷◌, ◌++◌, length, map, filter}
 use Rattle.std.specs.Prelude.{false, slice_get, slice_set, Option, Some, None, Result, Ok, Err}
 use Rattle.std.specs.List.{AllByRecursion}
+use Rattle.radio_base.specs.declared.modulus.LinkModulus.{LinkModulus}
 use Rattle.ax_address.specs.Callsign.{Callsign}
 use Rattle.circuit_l4.specs.declared.pair.Pair.{Pair}
 use Rattle.link_table.specs.Calls as links
@@ -176,16 +177,16 @@ module _ (entries : FetchesAllEntries) (sent : FetchesAllFrames) where
   unfolding reach
   reach_led line at input w a = reach_case line at input w (slice_get w.nodes at) refl a
 
-  sent_case : (line at : ℕ) (came128 : Bool) (w : World) (o : Option Placed) → slice_get w.nodes at ≡ o → Keeps w (put_of line at came128 o w)
-  sent_case line at came128 w None e l = l
-  sent_case line at came128 w (Some p) e l =
+  sent_case : (line at : ℕ) (came : LinkModulus) (w : World) (o : Option Placed) → slice_get w.nodes at ≡ o → Keeps w (put_of line at came o w)
+  sent_case line at came w None e l = l
+  sent_case line at came w (Some p) e l =
       let count : ℕ = length (frames p.state.station) in
       put_led w.nodes at p (record p { state = all_fetched_of p.state }) e l
       (led_on p (times count nodes.Fetches_frame) (all_fetched_of p.state) (times_ask count nodes.Fetches_frame tt) (fetched_is p.state) (l at p e))
 
-  sent_led : (line at : ℕ) (came128 : Bool) (w : World) → Keeps w (put line at came128 w)
+  sent_led : (line at : ℕ) (came : LinkModulus) (w : World) → Keeps w (put line at came w)
   unfolding put
-  sent_led line at came128 w = sent_case line at came128 w (slice_get w.nodes at) refl
+  sent_led line at came w = sent_case line at came w (slice_get w.nodes at) refl
 
   restart_case : (plan : Plan) (line at : ℕ) (pair : Pair) (w : World) (o : Option Placed) → slice_get w.nodes at ≡ o → Keeps w (restart_of plan line at pair o w)
   restart_case plan line at pair w None e l = l

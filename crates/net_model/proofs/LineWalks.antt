@@ -3,6 +3,8 @@ use Rattle.std.proofs.Common.{◌≡◌, ◌∙◌, ◌+◌, ◌-◌, ℕ, zero,
 use Rattle.std.specs.Prelude.{◌⊎◌, ◌&&◌, slice_get, Option, Some, None, is_some, Result, Ok, Err}
 use Rattle.std.specs.Fmt.{decimal}
 use Rattle.std.specs.List.{AllByRecursion}
+use Rattle.radio_base.specs.declared.modulus.LinkModulus.{LinkModulus}
+use Rattle.radio_base.specs.declared.modulus.LinkModulus.TheVariants.{Modulo8}
 use Rattle.ax_address.specs.Callsign.{Callsign, IsCallsign}
 use Rattle.ax_address.specs.declared.alias.Alias.{Alias}
 use Rattle.circuit_l4.specs.declared.facts.EndFacts.{EndFacts}
@@ -116,7 +118,7 @@ pub record Moves (plan : Plan) (Heard_from Locks : Callsign → Type 0) (Again :
   pub times : (line at : ℕ) (w : World) → P w (reach line at Time w)
   pub broadcasts : (line at : ℕ) (call : Callsign) (b : Broadcast) (w : World) → Heard_from call → P w (reach line at (Bytes (kiss_bytes (broadcast_octets call b))) w)
   pub frames : (line at place : ℕ) (f : Aired) (w : World) → slice_get w.air place ≡ Some f → P w (reach line at (Bytes (kiss_bytes f.octets.items)) w)
-  pub puts : (line at : ℕ) (came128 : Bool) (w : World) → P w (put line at came128 w)
+  pub puts : (line at : ℕ) (came : LinkModulus) (w : World) → P w (put line at came w)
   pub mails : (at : ℕ) (s : Lists) (w : World) → P w (with_mail at s w)
   pub restarts : (line number : ℕ) (pair : Pair) (w : World) → Again pair → P w (restart plan line number pair w)
   pub settles : (at : ℕ) (w : World) → P w (settle at w)
@@ -137,7 +139,7 @@ pub record LineMoves (plan : Plan) (Heard_from Locks Users : Callsign → Type 0
   pub times : (line at : ℕ) (w : World) → P w (reach line at Time w)
   pub broadcasts : (line at : ℕ) (call : Callsign) (b : Broadcast) (w : World) → Heard_from call → P w (reach line at (Bytes (kiss_bytes (broadcast_octets call b))) w)
   pub frames : (line at place : ℕ) (f : Aired) (w : World) → slice_get w.air place ≡ Some f → P w (reach line at (Bytes (kiss_bytes f.octets.items)) w)
-  pub puts : (line at : ℕ) (came128 : Bool) (w : World) → P w (put line at came128 w)
+  pub puts : (line at : ℕ) (came : LinkModulus) (w : World) → P w (put line at came w)
   pub restarts : (line number : ℕ) (pair : Pair) (w : World) → Again pair → P w (restart plan line number pair w)
   pub settles : (at : ℕ) (w : World) → P w (settle at w)
   pub later : (milliseconds : ℕ) (w : World) → P w (record w { now = w.now + milliseconds })
@@ -150,7 +152,7 @@ lines_of plan Heard_from Locks Again P k = record {
     tells = k.tells;
     takes = λ line at id w. k.does line at (acts.Take id) w tt;
     writes = λ line at id message w. k.does line at (acts.Write id message) w tt;
-    puts = λ line at w. k.puts line at false w;
+    puts = λ line at w. k.puts line at Modulo8 w;
     mails = k.mails;
   });
   does = λ line at act w i. k.does line at act w (mute_plain act i);
@@ -191,9 +193,9 @@ reach_none : (line at : ℕ) (x : Input) (w : World) → slice_get w.nodes at �
 unfolding reach
 reach_none line at x w e = ap (λ o. reaches line at x o w) e
 
-put_none : (line at : ℕ) (came128 : Bool) (w : World) → slice_get w.nodes at ≡ None → put line at came128 w ≡ w
+put_none : (line at : ℕ) (came : LinkModulus) (w : World) → slice_get w.nodes at ≡ None → put line at came w ≡ w
 unfolding put
-put_none line at came128 w e = ap (λ o. put_of line at came128 o w) e
+put_none line at came w e = ap (λ o. put_of line at came o w) e
 
 absent : (at id : ℕ) (message : List ℕ) (d : ActDone) (w : World) → facts_at (end_of id (ends_here at w)) ≡ None → answer at (acts.Write id message) w ≡ Ok d → slice_get w.nodes at ≡ None
 unfolding answer
@@ -201,16 +203,16 @@ absent at id message d w none e =
     answered (acts.Write id message) w.now (slice_get w.nodes at) d (λ p here. write_refused w.now id message p.state (sym (ap (λ o. facts_at (end_of id (ends_of_placed o))) here) ∙ none)) e
 
 still_free : (line at id : ℕ) (message : List ℕ) (es : List Event) (d : ActDone) (w : World) → IsFree at id w → answer at (acts.Write id message) w ≡ Ok d
-    → IsFree at id (put line at false (tell line es (reach line at (worlds.Act (acts.Write id message)) w)))
+    → IsFree at id (put line at Modulo8 (tell line es (reach line at (worlds.Act (acts.Write id message)) w)))
 still_free line at id message es d w (inl none) e =
     let v : World = reach line at (worlds.Act (acts.Write id message)) w in
-    inl (ap (mail_in at) (put_mails line at false (tell line es v) ∙ reach_mails line at (worlds.Act (acts.Write id message)) w) ∙ none)
+    inl (ap (mail_in at) (put_mails line at Modulo8 (tell line es v) ∙ reach_mails line at (worlds.Act (acts.Write id message)) w) ∙ none)
 still_free line at id message es d w (inr none) e =
     let v : World = reach line at (worlds.Act (acts.Write id message)) w in
     let away : slice_get w.nodes at ≡ None = absent at id message d w none e in
     let gone : slice_get v.nodes at ≡ None = ap (λ (u : World). slice_get u.nodes at) (reach_none line at (worlds.Act (acts.Write id message)) w away) ∙ away in
     inr
-    (ap (λ (u : World). facts_at (end_of id (ends_here at u))) (put_none line at false (tell line es v) gone) ∙ ap (λ o. facts_at (end_of id (ends_of_placed o))) gone)
+    (ap (λ (u : World). facts_at (end_of id (ends_here at u))) (put_none line at Modulo8 (tell line es v) gone) ∙ ap (λ o. facts_at (end_of id (ends_of_placed o))) gone)
 
 free_of : (m : Option Lists) (f : Option EndFacts) → (is_some m && is_some f) ≡ false → (m ≡ None) ⊎ (f ≡ None)
 free_of None f e = inl refl
@@ -227,7 +229,7 @@ module _ (plan : Plan) (Heard_from Locks Users : Callsign → Type 0) (Again : P
   tells : (line : ℕ) (es : List Event) (w : World) → AllByRecursion IsQuiet es → P w (tell line es w)
   tells = k.turns.tells
 
-  puts : (line at : ℕ) (came128 : Bool) (w : World) → P w (put line at came128 w)
+  puts : (line at : ℕ) (came : LinkModulus) (w : World) → P w (put line at came w)
   puts = k.puts
 
   -- at an end of an agent that alone is told
@@ -241,8 +243,8 @@ module _ (plan : Plan) (Heard_from Locks Users : Callsign → Type 0) (Again : P
   act_leads line at act told w reached quiet =
       let v : World = reach line at (worlds.Act act) w in
       let u : World = tell line (told (answer at act w)) v in
-      next w v (put line at false u) reached
-      (next v u (put line at false u) (tells line (told (answer at act w)) v (quiet (answer at act w))) (puts line at false u))
+      next w v (put line at Modulo8 u) reached
+      (next v u (put line at Modulo8 u) (tells line (told (answer at act w)) v (quiet (answer at act w))) (puts line at Modulo8 u))
 
   -- an act alone, of which nothing is asked; and that one event is told
   alone_leads : (line at : ℕ) (act : UserAct) (w : World) → IsMute act → P w (act_at line at act events_of_act w)
@@ -251,16 +253,16 @@ module _ (plan : Plan) (Heard_from Locks Users : Callsign → Type 0) (Again : P
   one_told : (line : ℕ) (e : Event) (w : World) → IsQuiet e → P w (tell line (e ∷ []) w)
   one_told line e w quiet = tells line (e ∷ []) w (quiet, tt)
 
-  hear_leads : (line number : ℕ) (octets : List ℕ) (came128 : Bool) (w : World) → P w (reach line (place_of_node number w.nodes) (Bytes octets) w) → P w (hear line number octets came128 w)
-  hear_leads line number octets came128 w reached =
+  hear_leads : (line number : ℕ) (octets : List ℕ) (came : LinkModulus) (w : World) → P w (reach line (place_of_node number w.nodes) (Bytes octets) w) → P w (hear line number octets came w)
+  hear_leads line number octets came w reached =
       let at : ℕ = place_of_node number w.nodes in
       let v : World = reach line at (Bytes octets) w in
-      next w v (put line at came128 v) reached (puts line at came128 v)
+      next w v (put line at came v) reached (puts line at came v)
 
   tick_leads : (line at : ℕ) (w : World) → P w (tick_node line at w)
   tick_leads line at w =
       let v : World = reach line at Time w in
-      next w v (put line at false v) (k.times line at w) (puts line at false v)
+      next w v (put line at Modulo8 v) (k.times line at w) (puts line at Modulo8 v)
 
   ticks_lead : (line count at : ℕ) (w : World) → P w (tick_from line at count w)
   ticks_lead line zero at w = stays w
@@ -269,16 +271,16 @@ module _ (plan : Plan) (Heard_from Locks Users : Callsign → Type 0) (Again : P
       next w v (tick_from line (suc at) count v) (tick_leads line at w) (ticks_lead line count (suc at) v)
 
   burst_case : (line at node end nth more : ℕ) (r : Result ActDone ActRefusal) (v : World)
-      → ((d : ActDone) → r ≡ Ok d → let u : World = put line at false (tell line (all_wrote node end nth more) v) in P u (burst_from line at node end (nth + 1) more u))
+      → ((d : ActDone) → r ≡ Ok d → let u : World = put line at Modulo8 (tell line (all_wrote node end nth more) v) in P u (burst_from line at node end (nth + 1) more u))
       → P v (burst_by line at node end nth more r v)
   burst_case line at node end nth more (Ok d) v rest =
       let u : World = tell line (all_wrote node end nth more) v in
-      let x : World = put line at false u in
+      let x : World = put line at Modulo8 u in
       let end_at : World = burst_from line at node end (nth + 1) more x in
-      next v u end_at (tells line (all_wrote node end nth more) v (quiet_wrote node end nth more)) (next u x end_at (puts line at false u) (rest d refl))
+      next v u end_at (tells line (all_wrote node end nth more) v (quiet_wrote node end nth more)) (next u x end_at (puts line at Modulo8 u) (rest d refl))
   burst_case line at node end nth more (Err why) v rest =
       let u : World = tell line (events.Wrote node end (nth - 1) ∷ refusal_events (of_act why)) v in
-      next v u (put line at false u) (tells line (events.Wrote node end (nth - 1) ∷ refusal_events (of_act why)) v (tt, quiet_refusal (of_act why))) (puts line at false u)
+      next v u (put line at Modulo8 u) (tells line (events.Wrote node end (nth - 1) ∷ refusal_events (of_act why)) v (tt, quiet_refusal (of_act why))) (puts line at Modulo8 u)
 
   burst_leads : (line more at node end nth : ℕ) (w : World) → IsFree at end w → P w (burst_from line at node end nth more w)
   unfolding burst_from
@@ -295,8 +297,8 @@ module _ (plan : Plan) (Heard_from Locks Users : Callsign → Type 0) (Again : P
   delivered line at node None w e = stays w
   delivered line at node (Some f) w e =
       let v : World = tell line (events.Delivered (at + 1) node ∷ []) w in
-      next w v (hear line node (kiss_bytes f.octets.items) f.modulo128 v) (one_told line (events.Delivered (at + 1) node) w tt)
-      (hear_leads line node (kiss_bytes f.octets.items) f.modulo128 v (k.frames line (place_of_node node v.nodes) at f v e))
+      next w v (hear line node (kiss_bytes f.octets.items) f.modulus v) (one_told line (events.Delivered (at + 1) node) w tt)
+      (hear_leads line node (kiss_bytes f.octets.items) f.modulus v (k.frames line (place_of_node node v.nodes) at f v e))
 
   deliver_leads : (line at node : ℕ) (w : World) → P w (deliver_at line at node w)
   unfolding deliver_at
@@ -352,7 +354,7 @@ module _ (plan : Plan) (Heard_from Locks Users : Callsign → Type 0) (Again : P
   shows line (Some p) w = one_told line (events.Shown (table_of p)) w tt
 
   pub line_leads : (line : ℕ) (i : Instruction) (w : World) → LineMay Heard_from Locks Users Again i → P w (do_line plan line i w)
-  line_leads line (instructions.Heard node call nodes) w i = hear_leads line node (kiss_bytes (broadcast_octets call (view nodes))) false w (k.broadcasts line (place_of_node node w.nodes) call (view nodes) w i)
+  line_leads line (instructions.Heard node call nodes) w i = hear_leads line node (kiss_bytes (broadcast_octets call (view nodes))) Modulo8 w (k.broadcasts line (place_of_node node w.nodes) call (view nodes) w i)
   line_leads line (instructions.Lock node dest alias neighbour quality) w i = act_leads line (place_of_node node w.nodes) (acts.Lock dest alias neighbour quality) events_of_act w (k.locks line (place_of_node node w.nodes) dest alias neighbour quality w i) quiet_told
   line_leads line (instructions.Show node) w i =
       shows line (slice_get w.nodes (place_of_node node w.nodes)) w

@@ -2,6 +2,8 @@
 use Rattle.std.proofs.Common.{◌≡◌, ◌≤◌, ◌∙◌, ℕ, zero, suc, refl, sym, ap, subst, arith, List, [], ◌∷◌, ◌++◌, Bool, true, false, cond}
 use Rattle.std.specs.Prelude.{Option, Some, None, Result, Ok, Err, is_some, length, slice_get}
 use Rattle.std.specs.List.{AllByRecursion}
+use Rattle.radio_base.specs.declared.modulus.LinkModulus.{LinkModulus}
+use Rattle.radio_base.specs.declared.modulus.LinkModulus.TheVariants.{Modulo8}
 use Rattle.ax_address.specs.Callsign.{Callsign}
 use Rattle.circuit_table.specs.CircuitSets.{held_ids, partner_at}
 use Rattle.circuit_table.specs.Sets.{end_of}
@@ -37,7 +39,7 @@ pub record AgentMoves (P : World → World → Type 0) : Type 0 where
   pub tells : (line : ℕ) (es : List Event) (w : World) → AllByRecursion IsQuiet es → P w (tell line es w)
   pub takes : (line at id : ℕ) (w : World) → P w (reach line at (worlds.Act (acts.Take id)) w)
   pub writes : (line at id : ℕ) (message : List ℕ) (w : World) → P w (reach line at (worlds.Act (acts.Write id message)) w)
-  pub puts : (line at : ℕ) (w : World) → P w (put line at false w)
+  pub puts : (line at : ℕ) (w : World) → P w (put line at Modulo8 w)
   pub mails : (at : ℕ) (s : Lists) (w : World) → P w (with_mail at s w)
 
 -- ---- the mail of all nodes stays
@@ -50,13 +52,13 @@ pub reach_mails : (line at : ℕ) (x : Input) (w : World) → (reach line at x w
 unfolding reach
 reach_mails line at x w = reaches_mails line at x (slice_get w.nodes at) w
 
-puts_mails : (line at : ℕ) (came128 : Bool) (o : Option Placed) (w : World) → (put_of line at came128 o w).mails ≡ w.mails
-puts_mails line at came128 None w = refl
-puts_mails line at came128 (Some p) w = refl
+puts_mails : (line at : ℕ) (came : LinkModulus) (o : Option Placed) (w : World) → (put_of line at came o w).mails ≡ w.mails
+puts_mails line at came None w = refl
+puts_mails line at came (Some p) w = refl
 
-pub put_mails : (line at : ℕ) (came128 : Bool) (w : World) → (put line at came128 w).mails ≡ w.mails
+pub put_mails : (line at : ℕ) (came : LinkModulus) (w : World) → (put line at came w).mails ≡ w.mails
 unfolding put
-put_mails line at came128 w = puts_mails line at came128 (slice_get w.nodes at) w
+put_mails line at came w = puts_mails line at came (slice_get w.nodes at) w
 
 -- ---- what is told of mail tells nothing of circuits
 
@@ -83,7 +85,7 @@ both_quiet (e ∷ es) fs a b = (a.0, both_quiet es fs a.1 b)
 module _ (P : World → World → Type 0) (k : AgentMoves P) where
   pub input_leads : (line at : ℕ) (act : UserAct) (w : World) → ((v : World) → P v (reach line at (worlds.Act act) v)) → P w (input line at act w)
   input_leads line at act w does =
-      let v : World = put line at false w in k.follows w v (reach line at (worlds.Act act) v) (k.puts line at w) (does v)
+      let v : World = put line at Modulo8 w in k.follows w v (reach line at (worlds.Act act) v) (k.puts line at w) (does v)
 
   written : (b : Bool) (line at id : ℕ) (message : List ℕ) (w : World) → P w (cond b (input line at (acts.Write id message) w) w)
   written true line at id message w = input_leads line at (acts.Write id message) w (k.writes line at id message)
@@ -128,7 +130,7 @@ module _ (P : World → World → Type 0) (k : AgentMoves P) where
 
     take_leads : (id : ℕ) (later : Agent → Agent) (a : Agent) → ((b : Agent) → Leads b (later b)) → Leads a (take_then line node at id later a)
     take_leads id later a rest =
-        let w : World = put line at false a.world in
+        let w : World = put line at Modulo8 a.world in
         let v : World = reach line at (worlds.Act (acts.Take id)) w in
         let b : Agent = record a { world = v } in
         leads_then a b (take_then line node at id later a) (k.follows a.world w v (k.puts line at a.world) (k.takes line at id w), λ q. q)
@@ -163,7 +165,7 @@ pub record TurnMoves (Users : Callsign → Type 0) (P : World → World → Type
   pub still : (w : World) → P w w
   pub follows : (u v w : World) → P u v → P v w → P u w
   pub tells : (line : ℕ) (es : List Event) (w : World) → AllByRecursion IsQuiet es → P w (tell line es w)
-  pub puts : (line at : ℕ) (w : World) → P w (put line at false w)
+  pub puts : (line at : ℕ) (w : World) → P w (put line at Modulo8 w)
   pub takes : (line node at id : ℕ) (a : Agent) → P a.world (take_then line node at id (λ b. b) a).world
   pub offers : (line node at id : ℕ) (w : World) → P w (offer_all line node at id w)
   pub posts : (at : ℕ) (to dest : Callsign) (text : List ℕ) (s : Lists) (w : World) → mail_at at w ≡ Some s → Users to → P w (with_mail at (post_step s to dest text) w)
@@ -226,7 +228,7 @@ module _ (Users : Callsign → Type 0) (P : World → World → Type 0) (k : Tur
     unfolding take_from
     takes_go id zero a = (k.still a.world, λ q. q)
     takes_go id (suc more) a =
-        let w : World = put line at false a.world in
+        let w : World = put line at Modulo8 a.world in
         let b : Agent = record a { world = reach line at (worlds.Act (acts.Take id)) w } in
         either (waits (take_answer (end_of id (ends_here at a.world)))) a (take_then line node at id (take_from line node at id more) a)
         (then_later id (partner_at (end_of id (ends_here at a.world))) (answer at (acts.Take id) w) (take_from line node at id more) a b (one_taken id a) (takes_go id more))
@@ -243,13 +245,13 @@ module _ (Users : Callsign → Type 0) (P : World → World → Type 0) (k : Tur
 
     -- behind the takings
     abbrev rest_of : Agent → World
-    rest_of taken = put line at false (tell line taken.answers (offer_at line node at (held_ids (ends_here at taken.world)) taken.world))
+    rest_of taken = put line at Modulo8 (tell line taken.answers (offer_at line node at (held_ids (ends_here at taken.world)) taken.world))
 
     rest_goes : (taken : Agent) → AllByRecursion IsQuiet taken.answers → P taken.world (rest_of taken)
     rest_goes taken quiet =
         let v : World = offer_at line node at (held_ids (ends_here at taken.world)) taken.world in
         let u : World = tell line taken.answers v in
-        let x : World = put line at false u in
+        let x : World = put line at Modulo8 u in
         k.follows taken.world v x (offer_at_goes (held_ids (ends_here at taken.world)) taken.world) (k.follows v u x (k.tells line taken.answers v quiet) (k.puts line at u))
 
     turn_goes : (b : Bool) (w : World) → P w (turn_by line node at b w)
@@ -278,7 +280,7 @@ module _ (Users : Callsign → Type 0) (P : World → World → Type 0) (k : Tur
     more_taken id zero m a h = takes_go id m a
     more_taken id (suc n) zero a h = absurd (omega (arith, h))
     more_taken id (suc n) (suc m) a h =
-        let w : World = put line at false a.world in
+        let w : World = put line at Modulo8 a.world in
         let b : Agent = record a { world = reach line at (worlds.Act (acts.Take id)) w } in
         both_on (waits (take_answer (end_of id (ends_here at a.world)))) a (take_then line node at id (take_from line node at id n) a) (take_then line node at id (take_from line node at id m) a)
         (took_on id (partner_at (end_of id (ends_here at a.world))) (answer at (acts.Take id) w) (take_from line node at id n) (take_from line node at id m) b (λ c. more_taken id n m c (omega (arith, h))))

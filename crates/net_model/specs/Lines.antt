@@ -1,7 +1,9 @@
 -- What each line of a network file does. Own profile.
-use Rattle.std.specs.Prelude.{ℕ, zero, suc, ◌+◌, ◌-◌, Bool, true, false, List, [], ◌∷◌, length, Option, Some, None, Result, Ok, Err, is_ok, if◌then◌else◌}
+use Rattle.std.specs.Prelude.{ℕ, zero, suc, ◌+◌, ◌-◌, true, false, List, [], ◌∷◌, length, Option, Some, None, Result, Ok, Err, is_ok, if◌then◌else◌}
 use Rattle.std.specs.Fmt.{decimal}
 use Rattle.std.specs.List.{flat_map, range_with_len}
+use Rattle.radio_base.specs.declared.modulus.LinkModulus.{LinkModulus}
+use Rattle.radio_base.specs.declared.modulus.LinkModulus.TheVariants.{Modulo8}
 use Rattle.kiss_framing.specs.Stream.{framed}
 use Rattle.nodes_broadcast.specs.Nodes.{view}
 use Rattle.node_core.specs.Broadcasts.{broadcast_octets}
@@ -97,20 +99,20 @@ show line number w = at_node (place_of_node number w.nodes) (λ p. tell line (ev
 module _ (line : ℕ) where
   -- a user's act reaches the node at a place; this is told of its answer, and the node's frames are put in the air
   abbrev pub act_at : ℕ → UserAct → (Result ActDone ActRefusal → List Event) → World → World
-  act_at at act told w = put line at false (tell line (told (answer at act w)) (reach line at (Act act) w))
+  act_at at act told w = put line at Modulo8 (tell line (told (answer at act w)) (reach line at (Act act) w))
 
   -- the same at the node of a number
   abbrev pub do_act : ℕ → UserAct → (Result ActDone ActRefusal → List Event) → World → World
   do_act number act told w = act_at (place_of_node number w.nodes) act told w
 
-  -- the node of a number hears KISS bytes, of a frame that was written modulo 128 or not
-  abbrev pub hear : ℕ → List ℕ → Bool → World → World
-  hear number bytes modulo128 w =
-      let at : ℕ = place_of_node number w.nodes in put line at modulo128 (reach line at (Bytes bytes) w)
+  -- the node of a number hears KISS bytes, of a frame that was written with this modulus
+  abbrev pub hear : ℕ → List ℕ → LinkModulus → World → World
+  hear number bytes modulus w =
+      let at : ℕ = place_of_node number w.nodes in put line at modulus (reach line at (Bytes bytes) w)
 
   -- ---- time goes on, and each of so many nodes from a place on is told
   abbrev pub tick_node : ℕ → World → World
-  tick_node at w = put line at false (reach line at Time w)
+  tick_node at w = put line at Modulo8 (reach line at Time w)
 
   abbrev pub tick_from : ℕ → ℕ → World → World
   tick_from at zero w = w
@@ -135,7 +137,7 @@ module _ (line : ℕ) where
   -- the frame at a place goes to a node
   unfoldable pub deliver_at : ℕ → ℕ → World → World
   deliver_at at node w =
-      at_frame at (λ f v. hear node (kiss_bytes f.octets.items) f.modulo128 (tell line (events.Delivered (at + 1) node ∷ []) v)) w
+      at_frame at (λ f v. hear node (kiss_bytes f.octets.items) f.modulus (tell line (events.Delivered (at + 1) node ∷ []) v)) w
 
   -- an unsettled frame is settled and goes to a node; a settled one goes there again
   abbrev pub deliver : ℕ → ℕ → World → World
@@ -186,7 +188,7 @@ restart plan line number pair w = let at : ℕ = place_of_node number w.nodes in
 -- ---- each kind of line
 
 abbrev pub do_line : Plan → ℕ → Instruction → World → World
-do_line plan line (instructions.Heard node call nodes) = hear line node (kiss_bytes (broadcast_octets call (view nodes))) false
+do_line plan line (instructions.Heard node call nodes) = hear line node (kiss_bytes (broadcast_octets call (view nodes))) Modulo8
 do_line plan line (instructions.Lock node dest alias neighbour quality) =
     do_act line node (acts.Lock dest alias neighbour quality) events_of_act
 do_line plan line (instructions.Round node) = do_act line node acts.Round events_of_act

@@ -1,6 +1,7 @@
 -- The lines `post` and `mail`: mail is posted at a node, and the agent of a node takes in what waits for it and offers what is queued.
 -- Own profile.
 use Rattle.std.specs.Prelude.{ℕ, zero, suc, ◌&&◌, Bool, true, false, List, [], ◌∷◌, ◌++◌, length, map, filter, nat_lt, slice_get, slice_set, is_none, is_ok, is_some, Option, Some, None, option_map, unwrap_or, Result, Ok, Err, if◌then◌else◌}
+use Rattle.radio_base.specs.declared.modulus.LinkModulus.TheVariants.{Modulo8}
 use Rattle.ax_address.specs.Callsign.{Callsign, same_call}
 use Rattle.circuit_l4.specs.State.{is_up}
 use Rattle.circuit_table.specs.CircuitSets.{facts_at, held_ids, partner_at}
@@ -106,7 +107,7 @@ may_write at id message w = is_ok (write_answer (end_of id (ends_here at w)) mes
 module _ (line at : ℕ) where
   -- an act of the agent is an input: what the inputs before it have put out is put in the air first
   abbrev pub aired_before : World → World
-  aired_before w = put line at false w
+  aired_before w = put line at Modulo8 w
 
   abbrev pub input : UserAct → World → World
   input act w = reach line at (Act act) (aired_before w)
@@ -194,7 +195,7 @@ module _ (line node at : ℕ) where
   offer_part w = offer_at (held_ids (ends_here at w)) w
 
   abbrev pub agent_turn : World → World
-  agent_turn w = let taken : Agent = take_part w in put line at false (tell line taken.answers (offer_part taken.world))
+  agent_turn w = let taken : Agent = take_part w in put line at Modulo8 (tell line taken.answers (offer_part taken.world))
 
   abbrev pub turn_by : Bool → World → World
   turn_by false w = tell line (events.Refused NoMail ∷ []) w

@@ -6,7 +6,6 @@ use Rattle.std.specs.List.{position_or_len, AllByRecursion}
 use Rattle.circuit_verdict.specs.declared.allowance.Allowance.{Allowance}
 use Rattle.circuit_verdict.specs.declared.allowance.Allowance.TheVariants.{Fixed, OfWindow}
 use Rattle.link_table.specs.declared.written.Written.{Written}
-use Rattle.radio_base.specs.Modulus.{modulus_size}
 use Rattle.radio_base.specs.declared.modulus.LinkModulus.{LinkModulus}
 use Rattle.network_file.specs.declared.plan.channels.Channel.{Channel}
 use Rattle.network_file.specs.Plan.{is_on_air, Plan, can_hear, version_of}
@@ -34,9 +33,9 @@ AllSettled frames = AllByRecursion (λ (f : Aired). f.settled ≡ true) frames
 abbrev pub most_frames : ℕ
 most_frames = 100000
 
--- a frame as it is put in the air, written modulo 128, else modulo 8 or without
-abbrev pub in_air : ℕ → ArrayVec ℕ → Bool → Aired
-in_air sender octets modulo128 = record { sender = sender; octets = octets; modulo128 = modulo128; settled = false }
+-- a frame as it is put in the air, written with sequence numbers of this modulus
+abbrev pub in_air : ℕ → ArrayVec ℕ → LinkModulus → Aired
+in_air sender octets modulus = record { sender = sender; octets = octets; modulus = modulus; settled = false }
 
 -- Frames are numbered from 1.
 abbrev pub frame_of : List Aired → ℕ → Option Aired
@@ -160,14 +159,9 @@ answer at act w = unwrap_or (option_map (λ (p : Placed). inputs.act_answer w.no
 
 -- ---- a node's frames are put in the air
 
--- a repeated frame was written as the one that came
-abbrev pub is_modulo128 : Bool → Option LinkModulus → Bool
-is_modulo128 came128 (Some modulus) = modulus_size modulus == 128
-is_modulo128 came128 None = came128
-
--- a frame of a node as it is put in the air
-abbrev pub aired_as : ℕ → Bool → Written → Aired
-aired_as sender came128 f = in_air sender f.octets (is_modulo128 came128 f.modulus)
+-- a frame of a node as it is put in the air; a repeated one was written as the one that came
+abbrev pub aired_as : ℕ → LinkModulus → Written → Aired
+aired_as sender came f = in_air sender f.octets (unwrap_or f.modulus came)
 
 -- so many frames more are in the air: they are numbered behind those that are there
 abbrev pub air_events : ℕ → ℕ → List Event
@@ -178,14 +172,14 @@ abbrev pub all_fetched_of : NodeState → NodeState
 all_fetched_of n = record n { station = record n.station { own = []; links = all_fetched n.station.links } }
 
 -- the frames of a node that come in the air: none where it is on no channel
-abbrev pub aired : List Channel → Bool → Placed → List Aired
-aired channels came128 p =
-    if is_on_air channels p.declared.node then map (aired_as p.declared.node came128) (frames p.state.station) else []
+abbrev pub aired : List Channel → LinkModulus → Placed → List Aired
+aired channels came p =
+    if is_on_air channels p.declared.node then map (aired_as p.declared.node came) (frames p.state.station) else []
 
 abbrev pub puts : ℕ → ℕ → Placed → List Aired → World → World
 puts line at p new w =
     tell line (air_events (length w.air) (length new)) (record (with_state at p (all_fetched_of p.state) w) { air = w.air ++ new })
 
 -- all frames of the node at a place
-unfoldable pub put : ℕ → ℕ → Bool → World → World
-put line at came128 w = at_node at (λ p. puts line at p (aired w.channels came128 p)) w
+unfoldable pub put : ℕ → ℕ → LinkModulus → World → World
+put line at came w = at_node at (λ p. puts line at p (aired w.channels came p)) w

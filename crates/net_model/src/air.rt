@@ -8,6 +8,7 @@ use crate::limits::MAX_FRAMES;
 use crate::refusals::{LineRefusal, ReplayRefusal};
 use link_table::Octets;
 use network_file::{Channel, can_hear};
+use radio_base::LinkModulus;
 use std::alloc::Global;
 use std::marker::Model;
 
@@ -16,8 +17,8 @@ use std::marker::Model;
 pub struct Aired {
     /// The node's number.
     pub sender: u8,
-    /// It was written with sequence numbers modulo 128, else modulo 8 or without.
-    pub modulo128: bool,
+    /// What its sequence numbers count modulo: that of the link that wrote it.
+    pub modulus: LinkModulus,
     /// It has gone where it goes, or is lost.
     pub settled: bool,
     pub octets: Octets,
@@ -94,8 +95,13 @@ impl Air {
     }
 
     /// Puts a frame in the air, as the last.
-    pub fn put(&mut self, sender: u8, octets: Octets, modulo128: bool) -> Result<(), ReplayRefusal>
-        ensures ok { OnOk result (self.new ≡ self.old ++ in_air sender octets modulo128 ∷ []) }
+    pub fn put(
+        &mut self,
+        sender: u8,
+        octets: Octets,
+        modulus: LinkModulus,
+    ) -> Result<(), ReplayRefusal>
+        ensures ok { OnOk result (self.new ≡ self.old ++ in_air sender octets modulus ∷ []) }
         ensures room { OnOk result (length self.old < most_frames) }
         ensures full { result ≡ Err FramesFull → most_frames ≤ length self.old }
         ensures err { OnErr result (self.new ≡ self.old) }
@@ -106,7 +112,7 @@ impl Air {
         self.frames.push(Aired {
             sender,
             octets,
-            modulo128,
+            modulus,
             settled: false,
         })?;
         Ok(())

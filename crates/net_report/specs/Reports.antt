@@ -1,6 +1,7 @@
 -- The report of a network, line by line, and the line on what came of a soak. Own profile.
-use Rattle.std.specs.Prelude.{ℕ, List, [], ◌∷◌, ◌++◌, flat_map, length, Option, Some, None, Result, Ok, Err, codes, if◌then◌else◌, suc, count_by, sum_by, Bool, true, false}
+use Rattle.std.specs.Prelude.{ℕ, List, [], ◌∷◌, ◌++◌, flat_map, length, Option, Some, None, Result, Ok, Err, codes, suc, count_by, sum_by, Bool, true, false}
 use Rattle.std.specs.Fmt.{decimal}
+use Rattle.radio_base.specs.Modulus.{modulus_size}
 use Rattle.ax_address.specs.Callsign as calls
 use Rattle.ax_address.specs.Alias as aliases
 use Rattle.ax_frame.specs.declared.frame.FrameRefusal.{FrameRefusal}
@@ -38,15 +39,11 @@ abbrev pub text_of_frame : Result Frame FrameRefusal → List ℕ
 text_of_frame (Ok f) = frame_text f
 text_of_frame (Err e) = []
 
--- sequence numbers are read as the frame was written
-abbrev pub modulus_of : Aired → ℕ
-modulus_of f = if f.modulo128 then 128 else 8
-
--- air K N FRAME
+-- air K N FRAME; sequence numbers are read as the frame was written
 abbrev pub air_line : ℕ → Option Aired → List ℕ
 air_line number None = []
 air_line number (Some f) =
-    codes "air " ++ (decimal number ++ (codes " " ++ (decimal f.sender ++ (codes " " ++ (text_of_frame (read_at (modulus_of f) f.octets.items) ++ codes "\n")))))
+    codes "air " ++ (decimal number ++ (codes " " ++ (decimal f.sender ++ (codes " " ++ (text_of_frame (read_at (modulus_size f.modulus) f.octets.items) ++ codes "\n")))))
 
 -- table N CALL ALIAS
 abbrev pub table_line : Table → List ℕ

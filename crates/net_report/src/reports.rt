@@ -1,6 +1,7 @@
 //! The report.
 ghost use Rattle.std.specs.Prelude.{◌≡◌, ◌++◌, List, Option, flat_map, codes, string_bytes, OnOk, OnErr, IfOk, Some};
 ghost use Rattle.std.specs.Fmt.{decimal};
+ghost use Rattle.radio_base.specs.Modulus.{modulus_size};
 ghost use Rattle.ax_frame.specs.Controls.{IsLinkModulus};
 ghost use Rattle.ax_frame.specs.Frames.{read_at};
 ghost use Rattle.node_core.specs.Standing.{NodeStands, entry_of};
@@ -29,7 +30,7 @@ use net_world::Trace;
 use network_file::Declaration;
 use node_core::{Node, NodeEntry};
 use node_mail::Store;
-use radio_base::{M8, M128, Modulus, NoMemory, TextOut, push_decimal};
+use radio_base::{LinkModulus, M8, M128, Modulus, NoMemory, TextOut, push_decimal};
 use std::alloc::{AllocError, Global};
 
 /// Room for the start of a frame's line.
@@ -139,12 +140,11 @@ fn air_start(number: usize, sender: u8) -> Line
 /// The frame, as a text.
 fn write_frame_text(frame: &Aired, text: &mut TextOut) -> Result<(), NoMemory>
     ensures { OnOk result (text.new ≡ text.old ++ texts.text_of_frame
-        (read_at (texts.modulus_of frame.now) frame.now.octets.items)) }
+        (read_at (modulus_size frame.now.modulus) frame.now.octets.items)) }
 {
-    if frame.modulo128 {
-        write_read::<M128>(frame.octets.as_slice(), text)
-    } else {
-        write_read::<M8>(frame.octets.as_slice(), text)
+    match frame.modulus {
+        LinkModulus::Modulo8 => write_read::<M8>(frame.octets.as_slice(), text),
+        LinkModulus::Modulo128 => write_read::<M128>(frame.octets.as_slice(), text),
     }
 }
 

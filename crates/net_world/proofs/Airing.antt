@@ -2,6 +2,7 @@
 use Rattle.std.proofs.Common.{◌≡◌, ◌≤◌, ◌+◌, ◌++◌, ◌∙◌, ℕ, zero, suc, refl, sym, ap, subst, List, [], ◌∷◌, length, map, drop, append_assoc, append-nil, arith, cond, Bool, true, false}
 use Rattle.std.specs.Prelude.{Option, Some, None, slice_get, slice_set}
 use Rattle.std.proofs.lemmas.List.{length-append, map-append}
+use Rattle.radio_base.specs.declared.modulus.LinkModulus.{LinkModulus}
 use Rattle.network_file.specs.Plan.{is_on_air}
 use Rattle.link_table.specs.Table.{written}
 use Rattle.link_table.specs.Frames.{Sent}
@@ -39,16 +40,16 @@ rest n = rest_own n n.station.own
 
 -- ---- frames and events, one and then the others
 
-abbrev of_node : Bool → ℕ → Bool → List Written → List Aired
-of_node on_air node came128 fs = cond on_air (map (aired_as node came128) fs) []
+abbrev of_node : Bool → ℕ → LinkModulus → List Written → List Aired
+of_node on_air node came fs = cond on_air (map (aired_as node came) fs) []
 
-of_first : (on_air : Bool) (node : ℕ) (came128 : Bool) (f : Written) (fs : List Written) → of_node on_air node came128 (f ∷ fs) ≡ aired_one on_air node came128 f ++ of_node on_air node came128 fs
-of_first true node came128 f fs = refl
-of_first false node came128 f fs = refl
+of_first : (on_air : Bool) (node : ℕ) (came : LinkModulus) (f : Written) (fs : List Written) → of_node on_air node came (f ∷ fs) ≡ aired_one on_air node came f ++ of_node on_air node came fs
+of_first true node came f fs = refl
+of_first false node came f fs = refl
 
-of_none : (on_air : Bool) (node : ℕ) (came128 : Bool) → of_node on_air node came128 [] ≡ []
-of_none true node came128 = refl
-of_none false node came128 = refl
+of_none : (on_air : Bool) (node : ℕ) (came : LinkModulus) → of_node on_air node came [] ≡ []
+of_none true node came = refl
+of_none false node came = refl
 
 events_of_both : (count m k : ℕ) (start : ℕ) → start ≡ count + m → air_events count (m + k) ≡ air_events count m ++ air_events start k
 events_of_both count zero k start e =
@@ -87,38 +88,38 @@ with_placed at p v = record v { nodes = slice_set v.nodes at p }
 abbrev emptied : Placed → Placed
 emptied p = record p { state = all_fetched_of p.state }
 
-frame_case : (line at node : ℕ) (on_air came128 : Bool) (v : World) (f : Written) (p : Placed) (fs : List Written) → slice_get v.nodes at ≡ Some p → frames p.state.station ≡ fs
+frame_case : (line at node : ℕ) (on_air : Bool) (came : LinkModulus) (v : World) (f : Written) (p : Placed) (fs : List Written) → slice_get v.nodes at ≡ Some p → frames p.state.station ≡ fs
     → Some f ≡ slice_get fs 0
-    → put_by line at node on_air came128 (airs line (aired_one on_air node came128 f) (change_of at fetched_frame (Some p) v)) ≡ put_by_of line at node on_air came128 (Some p) v
+    → put_by line at node on_air came (airs line (aired_one on_air node came f) (change_of at fetched_frame (Some p) v)) ≡ put_by_of line at node on_air came (Some p) v
 unfolding put_by
-frame_case line at node on_air came128 v f p [] is waits first = absurd (cc)
-frame_case line at node on_air came128 v f p (g ∷ fs) is waits first =
+frame_case line at node on_air came v f p [] is waits first = absurd (cc)
+frame_case line at node on_air came v f p (g ∷ fs) is waits first =
     let same : f ≡ g = cc in
     let q : Placed = record p { state = fetched_frame p.state } in
     let u : World = with_placed at q v in
-    let one : List Aired = aired_one on_air node came128 f in
+    let one : List Aired = aired_one on_air node came f in
     let got : slice_get u.nodes at ≡ Some q = set_same v.nodes at p q is in
     let others : frames q.state.station ≡ fs = left_frames p.state.station ∙ ap (λ (xs : List Written). drop 1 xs) waits in
-    let later : List Aired = of_node on_air node came128 fs in
-    let all : one ++ later ≡ of_node on_air node came128 (frames p.state.station) =
-    sym (of_first on_air node came128 f fs) ∙ ap (of_node on_air node came128) (ap (λ k. k ∷ fs) same ∙ sym waits) in
-    ap (λ o. put_by_of line at node on_air came128 o (airs line one u)) got
-    ∙ (ap (λ (xs : List Written). puts line at q (of_node on_air node came128 xs) (airs line one u)) others
+    let later : List Aired = of_node on_air node came fs in
+    let all : one ++ later ≡ of_node on_air node came (frames p.state.station) =
+    sym (of_first on_air node came f fs) ∙ ap (of_node on_air node came) (ap (λ k. k ∷ fs) same ∙ sym waits) in
+    ap (λ o. put_by_of line at node on_air came o (airs line one u)) got
+    ∙ (ap (λ (xs : List Written). puts line at q (of_node on_air node came xs) (airs line one u)) others
     ∙ (ap (λ (ns : List Placed). airs line later (airs line one (record v { nodes = ns }))) (set_twice v.nodes at q (emptied q))
     ∙ (ap (λ (n : NodeState). airs line later (airs line one (with_placed at (record p { state = n }) v))) (rest p.state)
     ∙ (airs_both line one later (with_placed at (emptied p) v)
     ∙ ap (λ (xs : List Aired). airs line xs (with_placed at (emptied p) v)) all))))
 
-frame_of_option : (line at node : ℕ) (on_air came128 : Bool) (v : World) (f : Written) (o : Option Placed) → slice_get v.nodes at ≡ o → Some f ≡ first_frame o
-    → put_by line at node on_air came128 (airs line (aired_one on_air node came128 f) (change_of at fetched_frame o v)) ≡ put_by_of line at node on_air came128 o v
-frame_of_option line at node on_air came128 v f None is first = absurd (cc)
-frame_of_option line at node on_air came128 v f (Some p) is first = frame_case line at node on_air came128 v f p (frames p.state.station) is refl first
+frame_of_option : (line at node : ℕ) (on_air : Bool) (came : LinkModulus) (v : World) (f : Written) (o : Option Placed) → slice_get v.nodes at ≡ o → Some f ≡ first_frame o
+    → put_by line at node on_air came (airs line (aired_one on_air node came f) (change_of at fetched_frame o v)) ≡ put_by_of line at node on_air came o v
+frame_of_option line at node on_air came v f None is first = absurd (cc)
+frame_of_option line at node on_air came v f (Some p) is first = frame_case line at node on_air came v f p (frames p.state.station) is refl first
 
 -- a frame that is fetched and put in the air leaves the others to be put there
-pub one_frame : (line at node : ℕ) (on_air came128 : Bool) (v : World) (f : Written) → Some f ≡ first_frame (slice_get v.nodes at)
-    → put_by line at node on_air came128 (airs line (aired_one on_air node came128 f) (change at fetched_frame v)) ≡ put_by line at node on_air came128 v
+pub one_frame : (line at node : ℕ) (on_air : Bool) (came : LinkModulus) (v : World) (f : Written) → Some f ≡ first_frame (slice_get v.nodes at)
+    → put_by line at node on_air came (airs line (aired_one on_air node came f) (change at fetched_frame v)) ≡ put_by line at node on_air came v
 unfolding put_by change
-one_frame line at node on_air came128 v f first = frame_of_option line at node on_air came128 v f (slice_get v.nodes at) refl first
+one_frame line at node on_air came v f first = frame_of_option line at node on_air came v f (slice_get v.nodes at) refl first
 
 -- ---- none is left
 
@@ -138,55 +139,55 @@ rest_none n e =
     ∙ (ap (λ (fs : List Sent). record n { station = record (n.station) { links = record (n.station.links) { pending = record (n.station.links.pending) { frames = fs } } } }) none
     ∙ ap (λ (own : List Written). record n { station = record (n.station) { own = own; links = all_fetched n.station.links } }) both.0)
 
-none_frame_case : (line at node : ℕ) (on_air came128 : Bool) (v : World) (p : Placed) (fs : List Written) → slice_get v.nodes at ≡ Some p → frames p.state.station ≡ fs
-    → None ≡ slice_get fs 0 → change_of at fetched_frame (Some p) v ≡ put_by_of line at node on_air came128 (Some p) v
-none_frame_case line at node on_air came128 v p (f ∷ fs) is waits first = absurd (cc)
-none_frame_case line at node on_air came128 v p [] is waits first =
+none_frame_case : (line at node : ℕ) (on_air : Bool) (came : LinkModulus) (v : World) (p : Placed) (fs : List Written) → slice_get v.nodes at ≡ Some p → frames p.state.station ≡ fs
+    → None ≡ slice_get fs 0 → change_of at fetched_frame (Some p) v ≡ put_by_of line at node on_air came (Some p) v
+none_frame_case line at node on_air came v p (f ∷ fs) is waits first = absurd (cc)
+none_frame_case line at node on_air came v p [] is waits first =
     let u : World = with_placed at (emptied p) v in
-    let none : of_node on_air node came128 (frames p.state.station) ≡ [] = ap (of_node on_air node came128) waits ∙ of_none on_air node came128 in
+    let none : of_node on_air node came (frames p.state.station) ≡ [] = ap (of_node on_air node came) waits ∙ of_none on_air node came in
     ap (λ (n : NodeState). with_placed at (record p { state = n }) v) (rest_none p.state waits)
     ∙ sym (ap (λ (xs : List Aired). airs line xs u) none ∙ airs_none line u)
 
-none_frame_option : (line at node : ℕ) (on_air came128 : Bool) (v : World) (o : Option Placed) → slice_get v.nodes at ≡ o → None ≡ first_frame o
-    → change_of at fetched_frame o v ≡ put_by_of line at node on_air came128 o v
-none_frame_option line at node on_air came128 v None is first = refl
-none_frame_option line at node on_air came128 v (Some p) is first = none_frame_case line at node on_air came128 v p (frames p.state.station) is refl first
+none_frame_option : (line at node : ℕ) (on_air : Bool) (came : LinkModulus) (v : World) (o : Option Placed) → slice_get v.nodes at ≡ o → None ≡ first_frame o
+    → change_of at fetched_frame o v ≡ put_by_of line at node on_air came o v
+none_frame_option line at node on_air came v None is first = refl
+none_frame_option line at node on_air came v (Some p) is first = none_frame_case line at node on_air came v p (frames p.state.station) is refl first
 
-pub no_frame : (line at node : ℕ) (on_air came128 : Bool) (v : World) → None ≡ first_frame (slice_get v.nodes at)
-    → change at fetched_frame v ≡ put_by line at node on_air came128 v
+pub no_frame : (line at node : ℕ) (on_air : Bool) (came : LinkModulus) (v : World) → None ≡ first_frame (slice_get v.nodes at)
+    → change at fetched_frame v ≡ put_by line at node on_air came v
 unfolding put_by change
-no_frame line at node on_air came128 v first = none_frame_option line at node on_air came128 v (slice_get v.nodes at) refl first
+no_frame line at node on_air came v first = none_frame_option line at node on_air came v (slice_get v.nodes at) refl first
 
-put_of_grows : (line at node : ℕ) (on_air came128 : Bool) (w : World) (o : Option Placed) → length w.air ≤ length (put_by_of line at node on_air came128 o w).air
-put_of_grows line at node on_air came128 w None = omega arith
-put_of_grows line at node on_air came128 w (Some p) = omega (arith, length-append w.air (of_node on_air node came128 (frames p.state.station)))
+put_of_grows : (line at node : ℕ) (on_air : Bool) (came : LinkModulus) (w : World) (o : Option Placed) → length w.air ≤ length (put_by_of line at node on_air came o w).air
+put_of_grows line at node on_air came w None = omega arith
+put_of_grows line at node on_air came w (Some p) = omega (arith, length-append w.air (of_node on_air node came (frames p.state.station)))
 
-pub put_by_grows : (line at node : ℕ) (on_air came128 : Bool) (w : World) → length w.air ≤ length (put_by line at node on_air came128 w).air
+pub put_by_grows : (line at node : ℕ) (on_air : Bool) (came : LinkModulus) (w : World) → length w.air ≤ length (put_by line at node on_air came w).air
 unfolding put_by
-put_by_grows line at node on_air came128 w = put_of_grows line at node on_air came128 w (slice_get w.nodes at)
+put_by_grows line at node on_air came w = put_of_grows line at node on_air came w (slice_get w.nodes at)
 
 -- the frames of a node with a number are those of the node at its place
-put_case : (line at node : ℕ) (came128 : Bool) (w : World) (o : Option Placed) → ((p : Placed) → o ≡ Some p → p.declared.node ≡ node)
-    → put_by_of line at node (is_on_air w.channels node) came128 o w ≡ put_of line at came128 o w
-put_case line at node came128 w None same = refl
-put_case line at node came128 w (Some p) same =
-    ap (λ n. puts line at p (cond (is_on_air w.channels n) (map (aired_as n came128) (frames p.state.station)) []) w) (sym (same p refl))
+put_case : (line at node : ℕ) (came : LinkModulus) (w : World) (o : Option Placed) → ((p : Placed) → o ≡ Some p → p.declared.node ≡ node)
+    → put_by_of line at node (is_on_air w.channels node) came o w ≡ put_of line at came o w
+put_case line at node came w None same = refl
+put_case line at node came w (Some p) same =
+    ap (λ n. puts line at p (cond (is_on_air w.channels n) (map (aired_as n came) (frames p.state.station)) []) w) (sym (same p refl))
 
-pub put_is : (line at node : ℕ) (on_air came128 : Bool) (w : World) → on_air ≡ is_on_air w.channels node → ((p : Placed) → slice_get w.nodes at ≡ Some p → p.declared.node ≡ node)
-    → put_by line at node on_air came128 w ≡ put line at came128 w
+pub put_is : (line at node : ℕ) (on_air : Bool) (came : LinkModulus) (w : World) → on_air ≡ is_on_air w.channels node → ((p : Placed) → slice_get w.nodes at ≡ Some p → p.declared.node ≡ node)
+    → put_by line at node on_air came w ≡ put line at came w
 unfolding put_by put
-put_is line at node on_air came128 w says same = ap (λ b. put_by_of line at node b came128 (slice_get w.nodes at) w) says ∙ put_case line at node came128 w (slice_get w.nodes at) same
+put_is line at node on_air came w says same = ap (λ b. put_by_of line at node b came (slice_get w.nodes at) w) says ∙ put_case line at node came w (slice_get w.nodes at) same
 
-pub put_none : (line at : ℕ) (came128 : Bool) (w : World) → slice_get w.nodes at ≡ None → put line at came128 w ≡ w
+pub put_none : (line at : ℕ) (came : LinkModulus) (w : World) → slice_get w.nodes at ≡ None → put line at came w ≡ w
 unfolding put
-put_none line at came128 w e = ap (λ o. put_of line at came128 o w) e
+put_none line at came w e = ap (λ o. put_of line at came o w) e
 
 -- ---- one frame put in the air by the code
 
-pub put_one : (old new : Course) (line node frame : ℕ) (came128 : Bool) (f : Written) (air : List Aired) → air ≡ old.left.air ++ aired_as node came128 f ∷ []
-    → frame ≡ length air → GoesOn (with_air old air) new (tell line (InAir frame ∷ [])) → GoesOn old new (airs line (aired_one true node came128 f))
-put_one old new line node frame came128 f air e count tells w t =
-    let x : Aired = aired_as node came128 f in
+pub put_one : (old new : Course) (line node frame : ℕ) (came : LinkModulus) (f : Written) (air : List Aired) → air ≡ old.left.air ++ aired_as node came f ∷ []
+    → frame ≡ length air → GoesOn (with_air old air) new (tell line (InAir frame ∷ [])) → GoesOn old new (airs line (aired_one true node came f))
+put_one old new line node frame came f air e count tells w t =
+    let x : Aired = aired_as node came f in
     let v : World = record w { air = w.air ++ x ∷ [] } in
     let there : Stands (with_air old air) v =
     record {

@@ -1,7 +1,8 @@
 -- How many overtakers are too many stays, whatever the lines do.
 use Rattle.std.proofs.Common.{◌≡◌, ◌∙◌, ℕ, refl, List, [], ◌∷◌}
-use Rattle.std.specs.Prelude.{Bool, slice_get, Option, Some, None}
+use Rattle.std.specs.Prelude.{slice_get, Option, Some, None}
 use Rattle.std.specs.List.{AllByRecursion}
+use Rattle.radio_base.specs.declared.modulus.LinkModulus.{LinkModulus}
 use Rattle.ax_address.specs.Callsign.{Callsign}
 use Rattle.circuit_l4.specs.declared.pair.Pair.{Pair}
 use Rattle.network_file.specs.declared.plan.instructions.NumberedInstruction.{NumberedInstruction}
@@ -28,13 +29,13 @@ reach_stays : (line at : ℕ) (input : Input) (w : World) → Stays w (reach lin
 unfolding reach
 reach_stays line at input w = reach_by line at input w (slice_get w.nodes at)
 
-put_by : (line at : ℕ) (came128 : Bool) (w : World) (o : Option Placed) → Stays w (put_of line at came128 o w)
-put_by line at came128 w None = refl
-put_by line at came128 w (Some p) = refl
+put_by : (line at : ℕ) (came : LinkModulus) (w : World) (o : Option Placed) → Stays w (put_of line at came o w)
+put_by line at came w None = refl
+put_by line at came w (Some p) = refl
 
-put_stays : (line at : ℕ) (came128 : Bool) (w : World) → Stays w (put line at came128 w)
+put_stays : (line at : ℕ) (came : LinkModulus) (w : World) → Stays w (put line at came w)
 unfolding put
-put_stays line at came128 w = put_by line at came128 w (slice_get w.nodes at)
+put_stays line at came w = put_by line at came w (slice_get w.nodes at)
 
 again_by : (plan : Plan) (line at : ℕ) (pair : Pair) (w : World) (o : Option Placed) → Stays w (with_found o (restarts plan line at pair) w)
 again_by plan line at pair w None = refl

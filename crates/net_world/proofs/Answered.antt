@@ -1,7 +1,8 @@
 -- An act, what is told of its answer, and the frames that are put in the air.
-use Rattle.std.proofs.Common.{◌≡◌, ◌∙◌, ℕ, ap, refl, sym, false, List}
+use Rattle.std.proofs.Common.{◌≡◌, ◌∙◌, ℕ, ap, refl, sym, List}
 use Rattle.std.specs.Prelude.{Result, Ok, Some, None}
 use Rattle.std.specs.List.{position_or_len}
+use Rattle.radio_base.specs.declared.modulus.LinkModulus.TheVariants.{Modulo8}
 use Rattle.node_core.specs.declared.acts.ActDone.{ActDone}
 use Rattle.node_core.specs.declared.acts.ActDone.TheVariants as actions
 use Rattle.node_core.specs.declared.acts.ActRefusal.{ActRefusal}
@@ -57,11 +58,11 @@ was_refused (answers.Refused other) r why e h = (h.0, h.1, h.2 ∙ sym e)
 
 pub acted : (old reached told new : Course) (line at : ℕ) (act : UserAct) (r : Result (Unit {0}) ReplayRefusal)
     (says : Result ActDone ActRefusal → List Event) (events : List Event) → GoesOn old reached (reach line at (Act act))
-    → ((w : World) → Stands old w → says (answer at act w) ≡ events) → GoesOn reached told (tell line events) → Runs told new (put line at false) r
-    → Runs old new (λ w. put line at false (tell line (says (answer at act w)) (reach line at (Act act) w))) r
+    → ((w : World) → Stands old w → says (answer at act w) ≡ events) → GoesOn reached told (tell line events) → Runs told new (put line at Modulo8) r
+    → Runs old new (λ w. put line at Modulo8 (tell line (says (answer at act w)) (reach line at (Act act) w))) r
 acted old reached told new line at act r says events goes same tells runs =
-    runs_as old new (λ w. put line at false (tell line events (reach line at (Act act) w)))
-    (λ w. put line at false (tell line (says (answer at act w)) (reach line at (Act act) w))) r
-    (λ w t. ap (λ es. put line at false (tell line es (reach line at (Act act) w))) (sym (same w t)))
-    (runs_then old told new (λ w. tell line events (reach line at (Act act) w)) (put line at false) r
+    runs_as old new (λ w. put line at Modulo8 (tell line events (reach line at (Act act) w)))
+    (λ w. put line at Modulo8 (tell line (says (answer at act w)) (reach line at (Act act) w))) r
+    (λ w t. ap (λ es. put line at Modulo8 (tell line es (reach line at (Act act) w))) (sym (same w t)))
+    (runs_then old told new (λ w. tell line events (reach line at (Act act) w)) (put line at Modulo8) r
     (goes_then old reached told (reach line at (Act act)) (tell line events) goes tells) runs)

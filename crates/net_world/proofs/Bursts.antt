@@ -1,7 +1,8 @@
 -- The texts of a burst, one after another.
-use Rattle.std.proofs.Common.{◌≡◌, ◌+◌, ◌-◌, ◌∙◌, ℕ, suc, sym, ap, subst, [], ◌∷◌, length, false}
+use Rattle.std.proofs.Common.{◌≡◌, ◌+◌, ◌-◌, ◌∙◌, ℕ, suc, sym, ap, subst, [], ◌∷◌, length}
 use Rattle.std.specs.Prelude.{Ok}
 use Rattle.std.specs.Fmt.{decimal}
+use Rattle.radio_base.specs.declared.modulus.LinkModulus.TheVariants.{Modulo8}
 use Rattle.node_core.specs.declared.acts.ActDone.{ActDone}
 use Rattle.node_core.specs.Acts.{UserAct, Write}
 use Rattle.net_model.specs.declared.refusals.LineRefusal.{LineRefusal}
@@ -23,12 +24,12 @@ text end nth = Write end (decimal nth)
 
 -- the world after a text that was taken, before the next
 abbrev pub taken : ℕ → ℕ → ℕ → ℕ → ℕ → ℕ → World → World
-taken line at node end nth more w = put line at false (tell line (all_wrote node end nth more) (reach line at (Act (text end nth)) w))
+taken line at node end nth more w = put line at Modulo8 (tell line (all_wrote node end nth more) (reach line at (Act (text end nth)) w))
 
 -- after one that was refused
 abbrev pub refused : ℕ → ℕ → ℕ → ℕ → ℕ → LineRefusal → World → World
 refused line at node end nth why w =
-    put line at false (tell line (Refused why ∷ []) (tell line (Wrote node end (nth - 1) ∷ []) (reach line at (Act (text end nth)) w)))
+    put line at Modulo8 (tell line (Refused why ∷ []) (tell line (Wrote node end (nth - 1) ∷ []) (reach line at (Act (text end nth)) w)))
 
 pub when_taken : (line at node end nth more : ℕ) (x : ActDone) (w : World) → answer at (text end nth) w ≡ Ok x
     → burst_from line at node end nth (suc more) w ≡ burst_from line at node end (nth + 1) more (taken line at node end nth more w)
@@ -42,8 +43,8 @@ unfolding burst_from
 when_refused line at node end nth more why w e =
     let v : World = reach line at (Act (text end nth)) w in
     ap (λ r. burst_by line at node end nth more r v) e.1
-    ∙ (ap (λ o. put line at false (tell line (Wrote node end (nth - 1) ∷ refusal_events o) v)) e.2
-    ∙ ap (put line at false) (sym (tell_both line (Wrote node end (nth - 1) ∷ []) (Refused why ∷ []) v)))
+    ∙ (ap (λ o. put line at Modulo8 (tell line (Wrote node end (nth - 1) ∷ refusal_events o) v)) e.2
+    ∙ ap (put line at Modulo8) (sym (tell_both line (Wrote node end (nth - 1) ∷ []) (Refused why ∷ []) v)))
 
 -- ---- stopped
 

@@ -4,6 +4,8 @@ use Rattle.std.specs.Prelude.{Option, Some, None, Result, Ok, Err, slice_get}
 use Rattle.std.specs.Fmt.{decimal}
 use Rattle.std.specs.List.{AllByRecursion, range_with_len}
 use Rattle.std.proofs.lemmas.List.{length-append}
+use Rattle.radio_base.specs.declared.modulus.LinkModulus.{LinkModulus}
+use Rattle.radio_base.specs.declared.modulus.LinkModulus.TheVariants.{Modulo8}
 use Rattle.circuit_l4.specs.declared.pair.Pair.{Pair}
 use Rattle.network_file.specs.Plan.{hearers, Plan}
 use Rattle.network_file.specs.declared.plan.instructions.NumberedInstruction.{NumberedInstruction}
@@ -35,35 +37,35 @@ pub reach_stays : (line at : ℕ) (input : Input) (w : World) → (reach line at
 unfolding reach
 reach_stays line at input w = reaches_stays line at input (slice_get w.nodes at) w
 
-put_of_grows : (line at : ℕ) (came128 : Bool) (o : Option Placed) (w : World) → length w.air ≤ length (put_of line at came128 o w).air
-put_of_grows line at came128 None w = omega arith
-put_of_grows line at came128 (Some p) w = omega (arith, length-append w.air (aired w.channels came128 p))
+put_of_grows : (line at : ℕ) (came : LinkModulus) (o : Option Placed) (w : World) → length w.air ≤ length (put_of line at came o w).air
+put_of_grows line at came None w = omega arith
+put_of_grows line at came (Some p) w = omega (arith, length-append w.air (aired w.channels came p))
 
-pub put_grows : (line at : ℕ) (came128 : Bool) (w : World) → length w.air ≤ length (put line at came128 w).air
+pub put_grows : (line at : ℕ) (came : LinkModulus) (w : World) → length w.air ≤ length (put line at came w).air
 unfolding put
-put_grows line at came128 w = put_of_grows line at came128 (slice_get w.nodes at) w
+put_grows line at came w = put_of_grows line at came (slice_get w.nodes at) w
 
 -- something reaches a node, something is told, and its frames are put in the air
-reach_put : (line at : ℕ) (input : Input) (came128 : Bool) (w v : World) → v.air ≡ (reach line at input w).air
-    → length w.air ≤ length (put line at came128 v).air
-reach_put line at input came128 w v same =
+reach_put : (line at : ℕ) (input : Input) (came : LinkModulus) (w v : World) → v.air ≡ (reach line at input w).air
+    → length w.air ≤ length (put line at came v).air
+reach_put line at input came w v same =
     let air : v.air ≡ w.air = same ∙ reach_stays line at input w in
-    let more = put_grows line at came128 v in
+    let more = put_grows line at came v in
     let count = ap (λ (air : List Aired). length air) air in
     omega (arith, more, count)
 
 -- ---- lines at one node
 
-hear_grows : (line number : ℕ) (bytes : List ℕ) (modulo128 : Bool) (w : World) → length w.air ≤ length (hear line number bytes modulo128 w).air
-hear_grows line number bytes modulo128 w =
-    reach_put line (place_of_node number w.nodes) (Bytes bytes) modulo128 w (reach line (place_of_node number w.nodes) (Bytes bytes) w) refl
+hear_grows : (line number : ℕ) (bytes : List ℕ) (modulus : LinkModulus) (w : World) → length w.air ≤ length (hear line number bytes modulus w).air
+hear_grows line number bytes modulus w =
+    reach_put line (place_of_node number w.nodes) (Bytes bytes) modulus w (reach line (place_of_node number w.nodes) (Bytes bytes) w) refl
 
 act_grows : (line number : ℕ) (act : UserAct) (told : Result ActDone ActRefusal → List Event) (w : World)
     → length w.air ≤ length (do_act line number act told w).air
-act_grows line number act told w = reach_put line (place_of_node number w.nodes) (Act act) false w _ refl
+act_grows line number act told w = reach_put line (place_of_node number w.nodes) (Act act) Modulo8 w _ refl
 
 pub tick_node_grows : (line at : ℕ) (w : World) → length w.air ≤ length (tick_node line at w).air
-tick_node_grows line at w = reach_put line at Time false w (reach line at Time w) refl
+tick_node_grows line at w = reach_put line at Time Modulo8 w (reach line at Time w) refl
 
 pub ticks_grow : (line at count : ℕ) (w : World) → length w.air ≤ length (tick_from line at count w).air
 ticks_grow line at zero w = omega arith
@@ -76,12 +78,12 @@ burst_by_grows : (line at node end nth more : ℕ) (r : Result ActDone ActRefusa
     → ((u : World) → length u.air ≤ length (burst_from line at node end (nth + 1) more u).air) → v.air ≡ w.air → length w.air ≤ length (burst_by line at node end nth more r v).air
 burst_by_grows line at node end nth more (Ok _) w v grows same =
     let u : World = tell line (all_wrote node end nth more) v in
-    let first = put_grows line at false u in
-    let rest = grows (put line at false u) in
+    let first = put_grows line at Modulo8 u in
+    let rest = grows (put line at Modulo8 u) in
     let count = ap (λ (air : List Aired). length air) same in
     omega (arith, first, rest, count)
 burst_by_grows line at node end nth more (Err why) w v grows same =
-    let first = put_grows line at false (tell line (Wrote node end (nth - 1) ∷ refusal_events (of_act why)) v) in
+    let first = put_grows line at Modulo8 (tell line (Wrote node end (nth - 1) ∷ refusal_events (of_act why)) v) in
     let count = ap (λ (air : List Aired). length air) same in
     omega (arith, first, count)
 
@@ -101,7 +103,7 @@ restart_grows plan line at pair (Some p) w = omega arith
 
 deliver_of_grows : (line at node : ℕ) (f : Option Aired) (w : World) → length w.air ≤ length (deliver_of line at node f w).air
 deliver_of_grows line at node None w = omega arith
-deliver_of_grows line at node (Some f) w = hear_grows line node (kiss_bytes f.octets.items) f.modulo128 (tell line (Delivered (at + 1) node ∷ []) w)
+deliver_of_grows line at node (Some f) w = hear_grows line node (kiss_bytes f.octets.items) f.modulus (tell line (Delivered (at + 1) node ∷ []) w)
 
 pub deliver_grows : (line at node : ℕ) (w : World) → length w.air ≤ length (deliver_at line at node w).air
 unfolding deliver_at
@@ -156,7 +158,7 @@ grown = record {
   tells = λ line es w q. omega arith;
   takes = λ line at id w. (let count = ap (λ (air : List Aired). length air) (reach_stays line at (Act (acts.Take id)) w) in omega (arith, count));
   writes = λ line at id message w. (let count = ap (λ (air : List Aired). length air) (reach_stays line at (Act (acts.Write id message)) w) in omega (arith, count));
-  puts = λ line at w. put_grows line at false w;
+  puts = λ line at w. put_grows line at Modulo8 w;
   mails = λ at s w. omega arith;
 }
 

@@ -21,12 +21,12 @@ not_found frames air at same e = ap (λ (fs : List Aired). slice_get fs at) (sym
 
 pub delivered : (old mid new : Course) (line at node : ℕ) (f : Aired) (r : Result (Unit {0}) ReplayRefusal)
     → slice_get old.left.air at ≡ Some f → GoesOn old mid (tell line (Delivered (at + 1) node ∷ []))
-    → Runs mid new (hear line node (kiss_bytes f.octets.items) f.modulo128) r → Runs old new (deliver_at line at node) r
+    → Runs mid new (hear line node (kiss_bytes f.octets.items) f.modulus) r → Runs old new (deliver_at line at node) r
 unfolding deliver_at
 delivered old mid new line at node f r is tells hears =
-    runs_as old new (λ w. hear line node (kiss_bytes f.octets.items) f.modulo128 (tell line (Delivered (at + 1) node ∷ []) w)) (λ w. deliver_of line at node (slice_get w.air at) w) r
+    runs_as old new (λ w. hear line node (kiss_bytes f.octets.items) f.modulus (tell line (Delivered (at + 1) node ∷ []) w)) (λ w. deliver_of line at node (slice_get w.air at) w) r
     (λ w t. sym (ap (λ o. deliver_of line at node o w) (ap (λ (fs : List Aired). slice_get fs at) (sym t.trace.air) ∙ is)))
-    (runs_then old mid new (tell line (Delivered (at + 1) node ∷ [])) (hear line node (kiss_bytes f.octets.items) f.modulo128) r tells hears)
+    (runs_then old mid new (tell line (Delivered (at + 1) node ∷ [])) (hear line node (kiss_bytes f.octets.items) f.modulus) r tells hears)
 
 pub not_delivered : (c : Course) (line at node : ℕ) → slice_get c.left.air at ≡ None → GoesOn c c (deliver_at line at node)
 unfolding deliver_at

@@ -3,6 +3,7 @@ use Rattle.std.proofs.Common.{◌≡◌, ◌≤◌, ◌∙◌, ◌-◌, ℕ, zer
 use Rattle.std.specs.Prelude.{Option, Some, None, OnOk, Result, Ok, Err, nat_lt, slice_get, slice_set}
 use Rattle.radio_base.specs.declared.no_memory.NoMemory.{NoMemory}
 use Rattle.std.specs.Option.{option_map}
+use Rattle.radio_base.specs.declared.modulus.LinkModulus.TheVariants.{Modulo8}
 use Rattle.ax_address.specs.Callsign.{Callsign, same_call}
 use Rattle.circuit_table.specs.CircuitSets.{partner_at}
 use Rattle.circuit_table.specs.Sets.{end_of}
@@ -223,7 +224,7 @@ module _ (line node at id : ℕ) where
   waits_at w = waits (take_answer (end_of id (ends_here at w)))
 
   abbrev pub said : World → Result ActDone ActRefusal
-  said w = answer at (acts.Take id) (put line at false w)
+  said w = answer at (acts.Take id) (put line at Modulo8 w)
 
   pub none_waits : (more : ℕ) (a : Agent) → false ≡ waits_at a.world → a ≡ take_from line node at id (suc more) a
   unfolding take_from
@@ -326,7 +327,7 @@ module _ (line node at id number : ℕ) where
   offer_done numbers w e = ap (λ b. offer_by line node at id number b (offer line node at id numbers) w) (sym e)
 
   pub offer_keeps : (w : World) → (offered_mail w).mails ≡ w.mails
-  offer_keeps w = reach_mails line at (worlds.Act (acts.Write id (offer_octets line node at number w))) (put line at false w) ∙ put_mails line at false w
+  offer_keeps w = reach_mails line at (worlds.Act (acts.Write id (offer_octets line node at number w))) (put line at Modulo8 w) ∙ put_mails line at Modulo8 w
 
   offer_case : (numbers : List ℕ) (w : World) (b : Bool) → length (cond b (wrote_mail w) w).air ≤ length (offer_by line node at id number b (offer line node at id numbers) w).air
   offer_case numbers w true = offers_lead _ (grown) line node at id numbers (offered_mail w)
@@ -347,12 +348,12 @@ starts c w answers t e = record { world = t; answers = ap (map event_of) e }
 
 module _ (line node at : ℕ) (old taken offered told new : Course) (answers : List code.Event) where
   pub turn_runs : (r : Result (Unit {0}) ReplayRefusal) → ((w : World) → Stands old w → AgentStands taken answers (take_part line node at w)) → GoesOn taken offered (offer_part line node at)
-      → GoesOn offered told (tell line (map event_of answers)) → Runs told new (put line at false) r → Runs old new (agent_turn line node at) r
+      → GoesOn offered told (tell line (map event_of answers)) → Runs told new (put line at Modulo8) r → Runs old new (agent_turn line node at) r
   turn_runs (Ok done) takes offers tells puts = λ w t.
       let a = takes w t in
-      subst (λ es. Stands new (put line at false (tell line es (offer_part line node at (take_part line node at w).world)))) a.answers
+      subst (λ es. Stands new (put line at Modulo8 (tell line es (offer_part line node at (take_part line node at w).world)))) a.answers
       (puts _ (tells _ (offers _ a.world)))
   turn_runs (Err e) takes offers tells puts = λ w t.
       let a = takes w t in
-      subst (λ es. IsRefusal e (length (put line at false (tell line es (offer_part line node at (take_part line node at w).world))).air)) a.answers
+      subst (λ es. IsRefusal e (length (put line at Modulo8 (tell line es (offer_part line node at (take_part line node at w).world))).air)) a.answers
       (puts _ (tells _ (offers _ a.world)))

@@ -3,6 +3,7 @@ use Rattle.std.specs.Prelude.{ℕ, zero, suc, ◌≡◌, min, List, [], ◌∷�
 use Rattle.circuit_l4.specs.declared.facts.EndFacts.{EndFacts}
 use Rattle.circuit_table.specs.CircuitSets.{facts_at}
 use Rattle.circuit_table.specs.Sets.{end_of}
+use Rattle.radio_base.specs.declared.modulus.LinkModulus.{LinkModulus}
 use Rattle.node_core.specs.Standing.{Kept, entries_left, frames_left}
 use Rattle.node_model.specs.States.{NodeState, fetch_entry, fetch_frame, frames}
 use Rattle.node_model.specs.States as states
@@ -107,13 +108,13 @@ all_entries line at w = at_node at (λ p. tells_entries line at p p.state) w
 abbrev pub airs : ℕ → List Aired → World → World
 airs line new w = tell line (air_events (length w.air) (length new)) (record w { air = w.air ++ new })
 
-abbrev pub aired_one : Bool → ℕ → Bool → Written → List Aired
-aired_one on_air node came128 f = if on_air then aired_as node came128 f ∷ [] else []
+abbrev pub aired_one : Bool → ℕ → LinkModulus → Written → List Aired
+aired_one on_air node came f = if on_air then aired_as node came f ∷ [] else []
 
 -- all frames of the node at a place, which has this number and is on a channel or not
-unfoldable pub put_by : ℕ → ℕ → ℕ → Bool → Bool → World → World
-put_by line at node on_air came128 w =
-    at_node at (λ p. puts line at p (if on_air then map (aired_as node came128) (frames p.state.station) else [])) w
+unfoldable pub put_by : ℕ → ℕ → ℕ → Bool → LinkModulus → World → World
+put_by line at node on_air came w =
+    at_node at (λ p. puts line at p (if on_air then map (aired_as node came) (frames p.state.station) else [])) w
 
 -- ---- a text of a burst: the burst has come to its end, or what is left of it is left
 

@@ -1,6 +1,7 @@
 //! The lines at one node: what its user does, and its table; and time, which goes on at all of them.
 ghost use Rattle.std.specs.Prelude.{◌≡◌, [], ℕ, false, OnOk, IfOk, length, slice_get};
 ghost use Rattle.std.specs.Option.{option_map};
+ghost use Rattle.radio_base.specs.declared.modulus.LinkModulus.TheVariants.{Modulo8};
 ghost use Rattle.node_core.specs.Broadcasts.{broadcast_octets};
 ghost use Rattle.node_core.specs.Acts as acts;
 ghost use Rattle.node_core.specs.Acts.{act_of};
@@ -16,7 +17,7 @@ use ax_address::Call;
 use net_model::{Answer, Event, LineRefusal, ReplayRefusal, Table, shown};
 use node_core::UserAct;
 use nodes_broadcast::Nodes;
-use radio_base::{Moment, NoMemory};
+use radio_base::{LinkModulus, Moment, NoMemory};
 
 impl World<'_> {
     /// The node of that number hears a broadcast.
@@ -28,11 +29,11 @@ impl World<'_> {
         nodes: &Nodes,
     ) -> Result<(), ReplayRefusal>
         ensures { Runs (course self.old) (course self.new)
-            (lines.hear line number (lines.kiss_bytes (broadcast_octets call.now (view nodes.now))) false) result }
+            (lines.hear line number (lines.kiss_bytes (broadcast_octets call.now (view nodes.now))) Modulo8) result }
     {
         let at = self.place_of(number);
         self.broadcast_reaches(line, at, call, nodes)?;
-        self.put_in_air(line, at, false)
+        self.put_in_air(line, at, LinkModulus::Modulo8)
     }
 
     /// A node's user acts, or it is told why that isn't done.
@@ -43,7 +44,7 @@ impl World<'_> {
         let at = self.place_of(number);
         let answer = self.act_reaches(line, at, act)?;
         self.tell_answer(line, &answer)?;
-        self.put_in_air(line, at, false)
+        self.put_in_air(line, at, LinkModulus::Modulo8)
     }
 
     /// Tells why an act isn't done.
@@ -114,7 +115,7 @@ impl World<'_> {
         let at = self.place_of(number);
         let answer = self.act_reaches(line, at, &UserAct::Take { id: end as u64 })?;
         self.tell_taken(line, number, end, answer)?;
-        self.put_in_air(line, at, false)
+        self.put_in_air(line, at, LinkModulus::Modulo8)
     }
 
     /// Tells the message that was taken, or why none was.
@@ -189,6 +190,6 @@ impl World<'_> {
         ensures { Runs (course self.old) (course self.new) (lines.tick_node line at) result }
     {
         self.time_reaches(line, at)?;
-        self.put_in_air(line, at, false)
+        self.put_in_air(line, at, LinkModulus::Modulo8)
     }
 }

@@ -13,7 +13,7 @@ ghost use Rattle.net_model.specs.World as worlds;
 use crate::world::World;
 use net_model::{Answer, Event, LineAt, LineRefusal, ReplayRefusal};
 use node_core::UserAct;
-use radio_base::NoMemory;
+use radio_base::{LinkModulus, NoMemory};
 
 impl World<'_> {
     /// The decimal texts from 1 to `count` are written at an end, up to the first that is refused; none where the end is an agent's.
@@ -93,7 +93,7 @@ impl World<'_> {
         match answer.refusal() {
             None => {
                 self.tell_written(here, end, nth, more)?;
-                self.put_in_air(here.line, here.at, false)?;
+                self.put_in_air(here.line, here.at, LinkModulus::Modulo8)?;
                 Ok(false)
             }
             Some(why) => {
@@ -101,7 +101,7 @@ impl World<'_> {
                 let count = nth - 1;
                 self.tell(here.line, Event::Wrote { node, end, count })?;
                 self.tell(here.line, Event::Refused { why })?;
-                self.put_in_air(here.line, here.at, false)?;
+                self.put_in_air(here.line, here.at, LinkModulus::Modulo8)?;
                 Ok(true)
             }
         }

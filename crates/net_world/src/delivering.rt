@@ -8,7 +8,7 @@ ghost use Rattle.net_world.specs.Running.{GoesOn, Runs, course};
 use crate::world::World;
 use net_model::{Event, ReplayRefusal, place_of_frame};
 use network_file::heard_by;
-use radio_base::NoMemory;
+use radio_base::{LinkModulus, NoMemory};
 
 impl World<'_> {
     /// Settles an unsettled frame, which goes to a node, or tells why not.
@@ -64,30 +64,30 @@ impl World<'_> {
     {
         match self.air.frames().get(at) {
             Some(frame) => {
-                let modulo128 = frame.modulo128;
+                let modulus = frame.modulus;
                 let frame = (at + 1) as u32;
                 self.tell(line, Event::Delivered { frame, node })?;
-                self.hear_frame(line, at, node, modulo128)
+                self.hear_frame(line, at, node, modulus)
             }
             None => Ok(()),
         }
     }
 
-    /// The node of that number hears the frame at a place, which was written modulo 128 or not.
+    /// The node of that number hears the frame at a place, which was written with this modulus.
     fn hear_frame(
         &mut self,
         line: u32,
         frame_at: usize,
         number: u8,
-        modulo128: bool,
+        modulus: LinkModulus,
     ) -> Result<(), ReplayRefusal>
         ensures { (f : Aired) → slice_get self.old.air frame_at ≡ Some f
             → Runs (course self.old) (course self.new)
-            (lines.hear line number (lines.kiss_bytes f.octets.items) modulo128) result }
+            (lines.hear line number (lines.kiss_bytes f.octets.items) modulus) result }
     {
         let at = self.place_of(number);
         self.frame_reaches(line, frame_at, at)?;
-        self.put_in_air(line, at, modulo128)
+        self.put_in_air(line, at, modulus)
     }
 
     /// So many times, the oldest unsettled frame is settled and goes to each node that hears its sender.

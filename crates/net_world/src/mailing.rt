@@ -18,7 +18,7 @@ use net_model::{
     Answer, Event, LineAt, LineRefusal, Posting, ReplayRefusal, keeps_mail, of_post, post_at,
 };
 use node_core::UserAct;
-use radio_base::NoMemory;
+use radio_base::{LinkModulus, NoMemory};
 
 impl World<'_> {
     /// A mail is posted at the node of that number, or it is told why it isn't.
@@ -84,7 +84,7 @@ impl World<'_> {
         self.take_at_ends(here, &mut answers)?;
         self.offer_at_ends(here)?;
         self.tell_each(here.line, answers)?;
-        self.put_in_air(here.line, here.at, false)
+        self.put_in_air(here.line, here.at, LinkModulus::Modulo8)
     }
 
     fn tell_each(&mut self, line: u32, events: Vec<Event>) -> Result<(), NoMemory>
@@ -105,7 +105,7 @@ impl World<'_> {
             → IsAnswerTo answer (worlds.answer here.at (act_of act.now) (mailing.aired_before here.line here.at w))) }
         ensures err { IfErr result (λ e. Stops (course self.old) e (mailing.input here.line here.at (act_of act.now))) }
     {
-        self.put_in_air(here.line, here.at, false)?;
+        self.put_in_air(here.line, here.at, LinkModulus::Modulo8)?;
         let answer = self.act_reaches(here.line, here.at, act)?;
         Ok(answer)
     }

@@ -250,13 +250,18 @@ impl World<'_> {
     /// Puts all frames of the node at a place in the air, where it is on a channel. A frame that is repeated was written as the
     /// frame that came.
     #[inline(always)]
-    pub fn put_in_air(&mut self, line: u32, at: usize, came128: bool) -> Result<(), ReplayRefusal>
-        ensures { Runs (course self.old) (course self.new) (worlds.put line at came128) result }
+    pub fn put_in_air(
+        &mut self,
+        line: u32,
+        at: usize,
+        came: LinkModulus,
+    ) -> Result<(), ReplayRefusal>
+        ensures { Runs (course self.old) (course self.new) (worlds.put line at came) result }
     {
         if at < self.declared.len() {
             let node = self.declared[at].node;
             let on_air = is_on_air(self.channels, node);
-            self.put_frames(line, at, node, on_air, came128)
+            self.put_frames(line, at, node, on_air, came)
         } else {
             Ok(())
         }
@@ -268,12 +273,12 @@ impl World<'_> {
         at: usize,
         node: u8,
         on_air: bool,
-        came128: bool,
+        came: LinkModulus,
     ) -> Result<(), ReplayRefusal>
-        ensures { Runs (course self.old) (course self.new) (running.put_by line at node on_air came128) result }
+        ensures { Runs (course self.old) (course self.new) (running.put_by line at node on_air came) result }
     {
         while let Some(written) = self.next_frame(at) {
-            self.put_frame(line, node, on_air, came128, written)?;
+            self.put_frame(line, node, on_air, came, written)?;
         }
         Ok(())
     }
@@ -299,31 +304,21 @@ impl World<'_> {
         line: u32,
         node: u8,
         on_air: bool,
-        came128: bool,
+        came: LinkModulus,
         written: Written,
     ) -> Result<(), ReplayRefusal>
         ensures runs { Runs (course self.old) (course self.new)
-            (running.airs line (running.aired_one on_air node came128 written)) result }
+            (running.airs line (running.aired_one on_air node came written)) result }
         ensures nodes { self.new.nodes.items ≡ self.old.nodes.items }
     {
         if on_air {
-            let modulo128 = is_modulo128(came128, written.modulus);
-            self.air.put(node, written.octets, modulo128)?;
+            let modulus = written.modulus.unwrap_or(came);
+            self.air.put(node, written.octets, modulus)?;
             let frame = self.air.frames().len() as u32;
             self.tell(line, Event::InAir { frame })?;
             Ok(())
         } else {
             Ok(())
         }
-    }
-}
-
-/// Whether a frame was written modulo 128; a repeated one as the frame that came.
-fn is_modulo128(came128: bool, modulus: Option<LinkModulus>) -> bool
-    ensures { result ≡ worlds.is_modulo128 came128 modulus }
-{
-    match modulus {
-        Some(modulus) => modulus.is_128(),
-        None => came128,
     }
 }

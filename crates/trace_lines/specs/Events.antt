@@ -1,6 +1,7 @@
 -- The events of a trace, one JSON object a line. Own profile.
-use Rattle.std.specs.Prelude.{ℕ, suc, List, [], ◌∷◌, ◌++◌, flat_map, length, Bool, true, false, ◌&&◌, ◌==◌, if◌then◌else◌, Option, Some, None}
+use Rattle.std.specs.Prelude.{ℕ, suc, List, [], ◌∷◌, ◌++◌, flat_map, length, Bool, true, false, ◌&&◌, ◌==◌, Option, Some, None}
 use Rattle.std.specs.List.{list_any}
+use Rattle.radio_base.specs.Modulus.{modulus_size}
 use Rattle.circuit_l4.specs.declared.facts.EndFacts.{EndFacts}
 use Rattle.circuit_l4.specs.declared.pair.Pair.{Pair}
 use Rattle.network_file.specs.declared.plan.instructions.NumberedInstruction.{NumberedInstruction}
@@ -30,14 +31,11 @@ is_again instruction = false
 abbrev pub repeats : List NumberedInstruction → ℕ → Bool
 repeats instructions line = list_any (λ (l : NumberedInstruction). (l.line == line) && is_again l.instruction) instructions
 
--- ---- frames; sequence numbers are read as the frame was written, modulo 8 or 128
-
-abbrev pub modulus_of : Bool → ℕ
-modulus_of modulo128 = if modulo128 then 128 else 8
+-- ---- frames, with what their sequence numbers count modulo: 8 or 128
 
 abbrev pub frame_line : Stand → ℕ → Aired → List ℕ
 frame_line s number f =
-    event "frame" s (Number "frame" number ∷ Number "node" f.sender ∷ Number "modulo" (modulus_of f.modulo128) ∷ Octets "octets" f.octets.items ∷ [])
+    event "frame" s (Number "frame" number ∷ Number "node" f.sender ∷ Number "modulo" (modulus_size f.modulus) ∷ Octets "octets" f.octets.items ∷ [])
 
 abbrev pub aired_text : Stand → ℕ → Option Aired → List ℕ
 aired_text s number None = []

@@ -1,5 +1,6 @@
 //! The events of a trace. Called by `traces`.
 ghost use Rattle.std.specs.Prelude.{◌≡◌, ◌++◌, [], ◌∷◌, length, OnOk, IfOk, string_bytes, map, flat_map};
+ghost use Rattle.radio_base.specs.Modulus.{modulus_size};
 ghost use Rattle.net_model.specs.World.{frame_of};
 ghost use Rattle.net_model.specs.Events.{event_of, numbered_of};
 ghost use Rattle.net_model.specs.Refused.{word_for_why};
@@ -17,7 +18,7 @@ use crate::marks::mark_of;
 use crate::stands::{AtNode, Stand};
 use circuit_l4::Pair;
 use net_model::{Aired, Event, LostEnd, NumberedEvent, Offer, Table};
-use radio_base::NoMemory;
+use radio_base::{LinkModulus, NoMemory};
 use route_table::Route;
 use std::alloc::{AllocError, Global};
 
@@ -149,10 +150,10 @@ fn write_frame(stand: Stand, number: u32, frame: &Aired, out: &mut Lines) -> Res
 /// The fields from the modulus on, and the end of their object.
 fn frame_fields(alloc: Global, frame: &Aired) -> Result<String, AllocError>
     ensures { IfOk result (λ s. string_bytes s
-        ≡ fields_text (Number "modulo" (events.modulus_of frame.now.modulo128)
+        ≡ fields_text (Number "modulo" (modulus_size frame.now.modulus)
         ∷ Octets "octets" frame.now.octets.items ∷ [])) }
 {
-    let modulo = modulus_of(frame.modulo128);
+    let modulo = size_of(frame.modulus);
     let octets = octets_text(alloc, frame)?;
     let octets = octets.as_str();
     let fields = format!(in alloc; ",\"modulo\":{modulo},\"octets\":{octets}}}\n")?;
@@ -165,10 +166,14 @@ fn octets_text(alloc: Global, frame: &Aired) -> Result<String, AllocError>
     hex_text(alloc, frame.octets.as_slice())
 }
 
-fn modulus_of(modulo128: bool) -> u8
-    ensures { result ≡ events.modulus_of modulo128 }
+/// How many numbers there are.
+fn size_of(modulus: LinkModulus) -> u8
+    ensures { result ≡ modulus_size modulus }
 {
-    if modulo128 { 128 } else { 8 }
+    match modulus {
+        LinkModulus::Modulo8 => 8,
+        LinkModulus::Modulo128 => 128,
+    }
 }
 
 /// The frame goes to the node.

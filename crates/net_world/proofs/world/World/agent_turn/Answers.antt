@@ -1,5 +1,6 @@
-use Rattle.std.proofs.Common.{[], arith, length, false}
+use Rattle.std.proofs.Common.{[], arith, length}
 use Rattle.std.proofs.lemmas.Result.{err_from_is_err_and}
+use Rattle.radio_base.specs.declared.modulus.LinkModulus.TheVariants.{Modulo8}
 use Rattle.circuit_table.specs.CircuitSets.{held_ids}
 use Rattle.net_model.specs.Mailing.{Agent, ends_here, offer_part, take_part}
 use Rattle.net_world.specs.Running.{course}
@@ -17,7 +18,7 @@ returns-in_err-take_at_ends c =
     let taken : Agent = take_part line c.args.here.node c.args.here.at w in
     let offered : World = offer_part line c.args.here.node c.args.here.at taken.world in
     let more = offer_at_grows line c.args.here.node c.args.here.at (held_ids (ends_here c.args.here.at taken.world)) taken.world in
-    let last = put_grows line c.args.here.at false (tell line taken.answers offered) in
+    let last = put_grows line c.args.here.at Modulo8 (tell line taken.answers offered) in
     refused_still _ (length taken.world.air) _ (omega (arith, more, last)) (c.in_err-take_at_ends.ensures (record { world = w; answers = [] }) (starts _ w _ t c.new-answers.ensures.items)))
 
 pub returns-in_err-offer_at_ends : goal.returns-in_err-offer_at_ends
@@ -28,7 +29,7 @@ returns-in_err-offer_at_ends c =
     let taken : Agent = take_part line c.args.here.node c.args.here.at w in
     let stands = c.in_ok-take_at_ends.ensures (record { world = w; answers = [] }) (starts _ w _ t c.new-answers.ensures.items) in
     let offered : World = offer_part line c.args.here.node c.args.here.at taken.world in
-    let last = put_grows line c.args.here.at false (tell line taken.answers offered) in
+    let last = put_grows line c.args.here.at Modulo8 (tell line taken.answers offered) in
     refused_still _ (length offered.air) _ (omega (arith, last)) (c.in_err-offer_at_ends.ensures taken.world stands.world))
 
 pub returns : goal.returns

@@ -13,5 +13,5 @@ returns c f e =
     let at = c.place_of-at.result in
     let line = c.args.line in
     let bytes = Bytes (kiss_bytes f.octets.items) in
-    at_number old new c.args.number at (λ k (w : World). put line k c.args.modulo128 (reach line k bytes w)) c.put_in_air.result c.place_of-at.ensures
-    (runs_then old mid new (reach line at bytes) (put line at c.args.modulo128) c.put_in_air.result (c.in_ok-frame_reaches.ensures f e) c.put_in_air.ensures)
+    at_number old new c.args.number at (λ k (w : World). put line k c.args.modulus (reach line k bytes w)) c.put_in_air.result c.place_of-at.ensures
+    (runs_then old mid new (reach line at bytes) (put line at c.args.modulus) c.put_in_air.result (c.in_ok-frame_reaches.ensures f e) c.put_in_air.ensures)

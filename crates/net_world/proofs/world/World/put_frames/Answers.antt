@@ -15,9 +15,9 @@ loop-written-preserved c = λ w t.
     let f = c.in-Some.written in
     let v : World = change at fetched_frame i.0 in
     let first : Some f ≡ first_frame (slice_get i.0.nodes at) = rw c.in-Some.is at (c.next_frame.ensures.answer i.0 i.1) in (
-      airs line (aired_one c.args.on_air c.args.node c.args.came128 f) v,
+      airs line (aired_one c.args.on_air c.args.node c.args.came f) v,
       c.in_ok-put_frame.ensures.runs v (c.next_frame.ensures.goes i.0 i.1),
-      one_frame line at c.args.node c.args.on_air c.args.came128 i.0 f first ∙ i.2,
+      one_frame line at c.args.node c.args.on_air c.args.came i.0 f first ∙ i.2,
     )
 
 pub returns-in_err-put_frame : goal.returns-in_err-put_frame
@@ -28,10 +28,10 @@ returns-in_err-put_frame c =
     let f = c.in-Some.written in
     let v : World = change c.args.at fetched_frame i.0 in
     let first : Some f ≡ first_frame (slice_get i.0.nodes c.args.at) = rw c.in-Some.is at (c.next_frame.ensures.answer i.0 i.1) in
-    let once : World = airs c.args.line (aired_one c.args.on_air c.args.node c.args.came128 f) v in
-    let whole = one_frame c.args.line c.args.at c.args.node c.args.on_air c.args.came128 i.0 f first ∙ i.2 in
-    let more : length once.air ≤ length (put_by c.args.line c.args.at c.args.node c.args.on_air c.args.came128 w).air =
-    subst (λ (u : World). length once.air ≤ length u.air) whole (put_by_grows c.args.line c.args.at c.args.node c.args.on_air c.args.came128 once) in
+    let once : World = airs c.args.line (aired_one c.args.on_air c.args.node c.args.came f) v in
+    let whole = one_frame c.args.line c.args.at c.args.node c.args.on_air c.args.came i.0 f first ∙ i.2 in
+    let more : length once.air ≤ length (put_by c.args.line c.args.at c.args.node c.args.on_air c.args.came w).air =
+    subst (λ (u : World). length once.air ≤ length u.air) whole (put_by_grows c.args.line c.args.at c.args.node c.args.on_air c.args.came once) in
     refused_still _ _ _ more (c.in_err-put_frame.ensures.runs v (c.next_frame.ensures.goes i.0 i.1)))
 
 pub returns : goal.returns
@@ -39,4 +39,4 @@ returns c = λ w t.
     let i = c.loop-written.invariant w t in
     let none : None ≡ first_frame (slice_get i.0.nodes c.args.at) = c.in_default.ensures.answer i.0 i.1 in
     subst (λ v. Stands (course c.next_frame.new.self) v)
-    (no_frame c.args.line c.args.at c.args.node c.args.on_air c.args.came128 i.0 none ∙ i.2) (c.in_default.ensures.goes i.0 i.1)
+    (no_frame c.args.line c.args.at c.args.node c.args.on_air c.args.came i.0 none ∙ i.2) (c.in_default.ensures.goes i.0 i.1)

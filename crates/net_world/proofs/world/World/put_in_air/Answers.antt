@@ -13,12 +13,12 @@ pub returns-then-at-len : goal.returns-then-at-len
 returns-then-at-len c =
     let old = course c.args.self.now in
     let d = c.index.result.now in
-    runs_as old (course c.put_frames.new.self) (put_by c.args.line c.args.at d.node c.is_on_air-on_air.result c.args.came128) (put c.args.line c.args.at c.args.came128)
+    runs_as old (course c.put_frames.new.self) (put_by c.args.line c.args.at d.node c.is_on_air-on_air.result c.args.came) (put c.args.line c.args.at c.args.came)
     c.put_frames.result
-    (λ w t. put_is c.args.line c.args.at d.node c.is_on_air-on_air.result c.args.came128 w (c.is_on_air-on_air.ensures ∙ ap (λ (cs : List Channel). is_on_air cs d.node) t.channels) (λ (p : Placed) is. ap (λ k. k.node) (declared_is old w c.args.at d p c.index.ensures t is))) c.put_frames.ensures
+    (λ w t. put_is c.args.line c.args.at d.node c.is_on_air-on_air.result c.args.came w (c.is_on_air-on_air.ensures ∙ ap (λ (cs : List Channel). is_on_air cs d.node) t.channels) (λ (p : Placed) is. ap (λ k. k.node) (declared_is old w c.args.at d p c.index.ensures t is))) c.put_frames.ensures
 
 pub returns-else-at-len : goal.returns-else-at-len
 returns-else-at-len c = λ w t.
     let old = course c.args.self.now in
     let h : length c.args.self.now.declared.items ≤ c.args.at = omega (arith, c.if-at-len.false, c.len.ensures) in
-    subst (λ v. Stands old v) (sym (put_none c.args.line c.args.at c.args.came128 w (past_declared old w c.args.at h t))) t
+    subst (λ v. Stands old v) (sym (put_none c.args.line c.args.at c.args.came w (past_declared old w c.args.at h t))) t
