@@ -17,10 +17,11 @@ use Rattle.node_core.specs.Carried.{Borne, Offered, Place, WasBorne, borne_in, i
 use Rattle.node_core.specs.Runs.{steps_at}
 use Rattle.net_model.specs.declared.air.Aired.{Aired}
 use Rattle.net_laws.specs.Hops.{Puts, all_borne, node_at}
-use Rattle.net_laws.proofs.Hopping.{Known, Within, and_left, and_right, borne_append, borne_split, frame_with, get_behind, known_more, known_within, offered_one, or_cases, same_list, within_more}
+use Rattle.net_laws.proofs.Hopping.{Known, Within, borne_append, borne_split, frame_with, get_behind, known_more, known_within, offered_one, or_cases, same_list, within_more}
 use Rattle.net_laws.proofs.Lists.{one_of}
 use Rattle.net_laws.proofs.Origins.{IsNamed}
 use Rattle.net_laws.proofs.Traced.{sent_at}
+use Rattle.node_core.proofs.Tracing.{and_left, and_right}
 
 -- ---- a datagram that a node has sent
 

@@ -53,9 +53,10 @@ use Rattle.net_laws.proofs.MovesRun.{put_comes, quiet_air, reach_comes, restart_
 use Rattle.net_laws.proofs.Comings.{KnownAir, StepsCame, came_both, inputs_came, named_alike, new_known, steps_within}
 use Rattle.net_laws.proofs.Hopping.{Known, borne_append, borne_settled, known_more, known_within, within_more, within_settled}
 use Rattle.net_laws.proofs.LineRuns.{placed_names}
-use Rattle.net_laws.proofs.Lists.{both, every, get_beside, get_put, kept_by, one_of, settled_all}
+use Rattle.net_laws.proofs.Lists.{both, every, kept_by, one_of, settled_all}
 use Rattle.net_laws.proofs.Origins.{IsNamed, told_by_names}
 use Rattle.net_laws.proofs.Traced.{IsRested, inputs_send, items_carried, others_send, rested_then, sent_at, sent_at_both, told_there}
+use Rattle.net_model.proofs.Changing.{get_set, get_other}
 
 module _ (plan : Plan) (size : ℕ) (apart : AreApart (names (new_nodes plan))) (are_steps : InputsAreSteps) (bytes : BytesRun) (ticks : TicksRun) (acts_run : ActsRun)
     (parts : FendParts) (read_back : FramesReadBack) (too_long : LongFramesAreTooLong) (bytes_carry : BytesCarry) (ticks_carry : TicksCarry) (acts_carry : ActsCarry) (further : CarriedFurther)
@@ -136,11 +137,11 @@ module _ (plan : Plan) (size : ℕ) (apart : AreApart (names (new_nodes plan))) 
       → G at q → (k : ℕ) (r : Placed) → slice_get (slice_set nodes at q) k ≡ Some r → (b : Bool) → nat_eq at k ≡ b → G k r
   beside F G nodes at p q e all grow mine k r f true b =
       let same : at ≡ k = grind (arith, b) in
-      let is : q ≡ r = (let some : Some q ≡ Some r = sym (get_put nodes at p q e) ∙ (ap (slice_get (slice_set nodes at q)) same ∙ f) in cc some) in
+      let is : q ≡ r = (let some : Some q ≡ Some r = sym (get_set nodes at p q e) ∙ (ap (slice_get (slice_set nodes at q)) same ∙ f) in cc some) in
       subst (λ x. G x r) same (subst (G at) is mine)
   beside F G nodes at p q e all grow mine k r f false b =
       let apart_are : at ≢ k = λ same. (let bad : ⊥ = grind (arith, b, same) in bad) in
-      grow k r b (all k r (sym (get_beside nodes at k q apart_are) ∙ f))
+      grow k r b (all k r (sym (get_other nodes at k q apart_are) ∙ f))
 
   -- the node at a place has the name that it was declared with
   named : (steps : List Step) (w : World) (at : ℕ) (p : Placed) → Flies steps w → slice_get w.nodes at ≡ Some p → node_at plan at ≡ Some p.declared

@@ -3,7 +3,6 @@ use Rattle.std.proofs.Common.{ℕ, zero, suc, List, [], ◌∷◌, length, map}
 use Rattle.std.specs.Prelude.{slice_get, Option, Some, None}
 use Rattle.std.specs.List.{AllByRecursion}
 use Rattle.radio_base.specs.declared.modulus.LinkModulus.{LinkModulus}
-use Rattle.ax_address.specs.Callsign.{Callsign}
 use Rattle.circuit_l4.specs.declared.pair.Pair.{Pair}
 use Rattle.network_file.specs.declared.plan.instructions.NumberedInstruction.{NumberedInstruction}
 use Rattle.network_file.specs.declared.plan.instructions.Instruction.{Instruction}
@@ -23,6 +22,7 @@ use Rattle.net_model.proofs.Containing.{AreOn, IsQuiet, on_both}
 use Rattle.net_model.proofs.LineWalks.{LineIs, Moves, lines_lead}
 use Rattle.net_model.proofs.Looks.{put_of, reaches}
 use Rattle.net_laws.proofs.Moving.{told_entries}
+use Rattle.net_model.proofs.MailWalks.{AnyCall}
 
 -- what is told then is told by no start
 abbrev Stays : World → World → Type 0
@@ -66,14 +66,11 @@ put_on line at came w = put_by line at came w (slice_get w.nodes at)
 
 -- ---- the lines
 
-abbrev Any : Callsign → Type 0
-Any call = Unit {0}
-
 -- no node starts again
 abbrev Never : Pair → Type 0
 Never pair = ⊥
 
-moves : (plan : Plan) → Moves plan Any Any Never Stays
+moves : (plan : Plan) → Moves plan AnyCall AnyCall Never Stays
 moves plan = record {
   still = λ w a. a;
   follows = λ u v w f g a. g (f a);
@@ -91,14 +88,14 @@ moves plan = record {
   later = λ milliseconds w a. a;
 }
 
-line_is : (i : Instruction) → IsInstruction i → RestartsNone i → LineIs Any Any Never i
+line_is : (i : Instruction) → IsInstruction i → RestartsNone i → LineIs AnyCall AnyCall Never i
 line_is (instructions.Restart node pair) i o = absurd o
 line_is (instructions.Open node dest) i o = i
 line_is other i o = tt
 
-lines_are : (ls : List NumberedInstruction) → AllByRecursion (λ (l : NumberedInstruction). IsInstruction l.instruction) ls → AllByRecursion LineRestartsNone ls → AllByRecursion (λ (l : NumberedInstruction). LineIs Any Any Never l.instruction) ls
+lines_are : (ls : List NumberedInstruction) → AllByRecursion (λ (l : NumberedInstruction). IsInstruction l.instruction) ls → AllByRecursion LineRestartsNone ls → AllByRecursion (λ (l : NumberedInstruction). LineIs AnyCall AnyCall Never l.instruction) ls
 lines_are [] a b = tt
 lines_are (l ∷ ls) a b = (line_is l.instruction a.0 b.0, lines_are ls a.1 b.1)
 
 pub lines_on : (plan : Plan) (ls : List NumberedInstruction) (w : World) → AllByRecursion (λ (l : NumberedInstruction). IsInstruction l.instruction) ls → AllByRecursion LineRestartsNone ls → AreOn w.told → AreOn (do_lines plan ls w).told
-lines_on plan ls w a b = lines_lead plan Any Any Never Stays (moves plan) ls w (lines_are ls a b)
+lines_on plan ls w a b = lines_lead plan AnyCall AnyCall Never Stays (moves plan) ls w (lines_are ls a b)

@@ -14,16 +14,9 @@ use Rattle.node_core.specs.Carried.{Borne, borne_in, is_borne, ttl_of}
 use Rattle.net_model.specs.declared.air.Aired.{Aired}
 use Rattle.net_model.specs.World.{settled_at}
 use Rattle.net_laws.specs.Hops.{CameBy, HopsTakeOne, Puts, all_borne}
+use Rattle.node_core.proofs.Tracing.{and_left, and_right}
 
 -- ---- tests
-
-pub and_left : (a b : Bool) → (a && b) ≡ true → a ≡ true
-and_left true b e = refl
-and_left false b e = absurd (cc e)
-
-pub and_right : (a b : Bool) → (a && b) ≡ true → b ≡ true
-and_right true b e = e
-and_right false b e = absurd (cc e)
 
 pub and_of : (a b : Bool) → a ≡ true → b ≡ true → (a && b) ≡ true
 and_of a b p q = rw (p, q) refl

@@ -23,12 +23,12 @@ use Rattle.net_model.specs.Lines.{do_line, do_lines, world}
 use Rattle.net_model.specs.Starting.{Placed, by_number, has_number, new_nodes, new_placed}
 use Rattle.net_model.specs.World as worlds
 use Rattle.net_model.specs.World.{Time, World, start}
-use Rattle.net_model.proofs.Containing.{AreApart, Contains, Tracks, TracksAt, events_by, events_named, is_named, names}
-use Rattle.ax_address.specs.Callsign.{Callsign}
+use Rattle.net_model.proofs.Containing.{AreApart, Contains, Tracks, TracksAt, events_by, events_named, names}
 use Rattle.net_model.proofs.LineWalks.{IsPlain, LineIs, Moves, lines_lead}
 use Rattle.net_laws.proofs.Moving.{new_tracks, set_is}
 use Rattle.net_laws.proofs.MovesRun.{Leads, put_leads, reach_leads, restart_leads, still, tell_leads, then}
 use Rattle.net_model.proofs.Remembering.{end_above, end_id, end_lift}
+use Rattle.net_model.proofs.MailWalks.{AnyCall}
 
 -- ---- no two nodes have one number
 
@@ -53,9 +53,9 @@ different_apart : (ds : List Declaration) → AreDifferent ds → AreApart ds
 different_apart [] a at d e = absurd (cc e)
 different_apart (x ∷ ds) a zero d e =
     let same : x ≡ d = cc e in
-    subst (λ (y : Declaration). position_or_len (is_named y.node) (x ∷ ds) ≡ 0) same (ap (λ b. cond (not b) (1 + position_or_len (is_named x.node) ds) 0) (let own : (x.node == x.node) ≡ true = grind arith in own))
+    subst (λ (y : Declaration). position_or_len (has_number y.node) (x ∷ ds) ≡ 0) same (ap (λ b. cond (not b) (1 + position_or_len (has_number x.node) ds) 0) (let own : (x.node == x.node) ≡ true = grind arith in own))
 different_apart (x ∷ ds) a (suc at) d e =
-    ap (λ b. cond (not b) (1 + position_or_len (is_named d.node) ds) 0) (differs d.node x.node (not_named ds at x.node d a.0 e))
+    ap (λ b. cond (not b) (1 + position_or_len (has_number d.node) ds) 0) (differs d.node x.node (not_named ds at x.node d a.0 e))
     ∙ ap (λ n. 1 + n) (different_apart ds a.1 at d e) ∙ (let n : 1 + at ≡ suc at = omega arith in n)
 
 has_append : (xs ys : List Declaration) (n : ℕ) → has_node xs n ≡ false → has_node ys n ≡ false → has_node (xs ++ ys) n ≡ false
@@ -133,10 +133,6 @@ held_in plan told s p t id h e =
 module _ (plan : Plan) (apart : AreApart (names (new_nodes plan))) (are_steps : InputsAreSteps) (bytes : BytesRun) (ticks : TicksRun) (acts_run : ActsRun) where
   abbrev Lead : World → World → Type 0
   Lead w v = Leads plan apart are_steps bytes ticks acts_run w v
-
-  -- nothing is asked of whom broadcasts are heard from, and to whom routes are locked
-  abbrev AnyCall : Callsign → Type 0
-  AnyCall call = Unit {0}
 
   plain_act : (act : UserAct) → IsPlain act → IsUserAct act
   plain_act acts.Round i = tt

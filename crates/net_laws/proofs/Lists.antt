@@ -4,6 +4,7 @@ use Rattle.std.specs.Prelude.{◌≢◌, nat_eq, slice_get, slice_index_or, slic
 use Rattle.std.specs.List.{AllByRecursion}
 use Rattle.net_model.specs.declared.air.Aired.{Aired}
 use Rattle.net_model.specs.World.{settled_at}
+use Rattle.net_model.proofs.Changing.{get_set, get_other}
 
 pub settled_all : (P : List ℕ → Type 0) (at : ℕ) (air : List Aired) → AllByRecursion (λ (f : Aired). P f.octets.items) air → AllByRecursion (λ (f : Aired). P f.octets.items) (settled_at at air)
 settled_all P at [] a = tt
@@ -43,18 +44,6 @@ kept_by {A} P test (x ∷ xs) a = by (test x) (kept_by P test xs a.1)
     by true rest = (a.0, rest)
     by false rest = rest
 
-pub get_put : {A : Type 0} (xs : List A) (at : ℕ) (x y : A) → slice_get xs at ≡ Some x → slice_get (slice_set xs at y) at ≡ Some y
-get_put [] at x y e = absurd (cc e)
-get_put (z ∷ xs) zero x y e = refl
-get_put (z ∷ xs) (suc at) x y e = get_put xs at x y e
-
-pub get_beside : {A : Type 0} (xs : List A) (i j : ℕ) (y : A) → i ≢ j → slice_get (slice_set xs i y) j ≡ slice_get xs j
-get_beside [] i j y n = refl
-get_beside (z ∷ xs) zero zero y n = absurd (n refl)
-get_beside (z ∷ xs) zero (suc j) y n = refl
-get_beside (z ∷ xs) (suc i) zero y n = refl
-get_beside (z ∷ xs) (suc i) (suc j) y n = get_beside xs i j y (λ e. n (ap suc e))
-
 -- something holds of all of them, where one was changed
 pub put_each : {A : Type 0} (F : ℕ → A → Type 0) (xs : List A) (at : ℕ) (x y : A) → slice_get xs at ≡ Some x → ((k : ℕ) (z : A) → slice_get xs k ≡ Some z → F k z) → F at y
     → (k : ℕ) (z : A) → slice_get (slice_set xs at y) k ≡ Some z → F k z
@@ -63,8 +52,8 @@ put_each {A} F xs at x y e all mine k z f = by (nat_eq at k) refl
     by : (b : Bool) → nat_eq at k ≡ b → F k z
     by true g =
         let same : at ≡ k = grind (arith, g) in
-        let is : y ≡ z = (let some : Some y ≡ Some z = sym (get_put xs at x y e) ∙ (ap (slice_get (slice_set xs at y)) same ∙ f) in cc some) in
+        let is : y ≡ z = (let some : Some y ≡ Some z = sym (get_set xs at x y e) ∙ (ap (slice_get (slice_set xs at y)) same ∙ f) in cc some) in
         subst (λ n. F n z) same (subst (F at) is mine)
     by false g =
         let apart : at ≢ k = λ same. (let bad : ⊥ = grind (arith, g, same) in bad) in
-        all k z (sym (get_beside xs at k y apart) ∙ f)
+        all k z (sym (get_other xs at k y apart) ∙ f)

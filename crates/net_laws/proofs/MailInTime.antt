@@ -43,15 +43,12 @@ use Rattle.net_laws.proofs.MailMoves.{Goes, Holds, InTime, Mails, NodeKeeps, has
 use Rattle.net_laws.proofs.MailOrder.{InOrder, new_order}
 use Rattle.net_laws.proofs.MailRuns.{begins}
 use Rattle.net_laws.proofs.MailTurns as turns
-use Rattle.net_model.proofs.MailWalks.{TurnMoves, taking_goes, taking_on}
+use Rattle.net_model.proofs.MailWalks.{TurnMoves, taking_goes, taking_on, AnyCall}
 use Rattle.net_laws.proofs.Moving.{set_is}
 use Rattle.net_laws.proofs.Promising as promising
 use Rattle.net_laws.proofs.Returned.{call_itself, calls_differ}
 
 -- ---- the lines of a file
-
-abbrev AnyCall : Callsign → Type 0
-AnyCall call = Unit {0}
 
 line_may : (i : Instruction) → IsInstruction i → NamesCalls i → LineMay AnyCall AnyCall IsCall IsPair i
 line_may (instructions.Restart node pair) i n = i

@@ -44,7 +44,7 @@ use Rattle.net_model.specs.World.{Bytes, Input, Time, World, after, all_fetched_
 use Rattle.net_model.proofs.Containing.{AreApart, Contains, IsQuiet, name_at, names, quiet_contains}
 use Rattle.net_laws.proofs.Hopping.{same_is}
 use Rattle.net_model.proofs.LineWalks.{IsFree, IsMute, write_refused}
-use Rattle.net_laws.proofs.Lists.{get_beside, get_put, put_each}
+use Rattle.net_laws.proofs.Lists.{put_each}
 use Rattle.net_model.proofs.Looks.{ends_of_placed, joined, put_of, reaches, restart_of}
 use Rattle.net_laws.proofs.Moving.{set_is}
 use Rattle.net_laws.proofs.MovesRun.{put_contains, reach_contains, restart_contains}
@@ -52,6 +52,7 @@ use Rattle.net_laws.proofs.Returned.{call_itself}
 use Rattle.net_laws.proofs.EndWrites.{Went, Wrote, are_silent, says_walk, silent_walk}
 use Rattle.net_laws.proofs.MailOrder.{InOrder}
 use Rattle.net_laws.proofs.MailRuns.{Reached}
+use Rattle.net_model.proofs.Changing.{get_set, get_other}
 
 -- whether the node of a call keeps mail
 abbrev pub has_mail : Plan → List Declaration → Callsign → Bool
@@ -168,7 +169,7 @@ module _ (plan : Plan) (apart : AreApart (names (new_nodes plan))) (are_steps : 
 
   -- the mail of a node has come to this
   beside : (at k : ℕ) (s : Lists) (w : World) → (at ≡ k → ⊥) → mail_at k (with_mail at s w) ≡ mail_at k w
-  beside at k s w far = ap joined (get_beside w.mails at k (Some s) far)
+  beside at k s w far = ap joined (get_other w.mails at k (Some s) far)
 
   pub stored : (m : MailRun) (w : World) (at : ℕ) (p : Placed) (old s : Lists) → slice_get w.nodes at ≡ Some p → names w.nodes ≡ ds → mail_at at w ≡ Some old → InOrder s → EachKeeps m w
       → EachKeeps (with_store m p.declared.call s) (with_mail at s w)
@@ -181,7 +182,7 @@ module _ (plan : Plan) (apart : AreApart (names (new_nodes plan))) (are_steps : 
       by true g =
           let same : at ≡ k = grind (arith, g) in
           let is : p ≡ r = (let two : Some p ≡ Some r = sym e ∙ (ap (slice_get w.nodes) same ∙ f) in cc two) in
-          let now : mail_at k (with_mail at s w) ≡ Some s = ap (λ i. mail_at i (with_mail at s w)) (sym same) ∙ ap joined (get_put w.mails at (Some old) (Some s) (joined_some (slice_get w.mails at) old was)) in
+          let now : mail_at k (with_mail at s w) ≡ Some s = ap (λ i. mail_at i (with_mail at s w)) (sym same) ∙ ap joined (get_set w.mails at (Some old) (Some s) (joined_some (slice_get w.mails at) old was)) in
           let o : NodeKeeps m r (mail_at k w) = all k r f in
           let had : is_some (mail_at k w) ≡ true = ap (λ i. is_some (mail_at i w)) (sym same) ∙ ap is_some was in
           record {

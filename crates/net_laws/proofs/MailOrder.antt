@@ -15,6 +15,7 @@ use Rattle.node_mail.specs.Wires.{wire_at}
 use Rattle.net_model.specs.Mailing.{numbers_for}
 use Rattle.net_laws.proofs.Hopping.{same_is}
 use Rattle.net_laws.proofs.Lists.{both, every, kept_by}
+use Rattle.node_core.proofs.Tracing.{and_left}
 
 pub record InOrder (s : Lists) : Type 0 where
   pub rises : Rises s.queued
@@ -97,10 +98,6 @@ for_more dest x ls a number f =
     let other : (x.number == number) ≡ false = grind (arith, low) in
     (f.0, ap (λ b. cond b (Some x) (letter_of number ls)) other ∙ f.1, f.2)
 
-both_true : (a b : Bool) → (a && b) ≡ true → a ≡ true
-both_true true b e = refl
-both_true false b e = absurd (cc e)
-
 pub all_for : (dest : Callsign) (last : ℕ) (ls : List Letter) → Rises ls → AllByRecursion (IsFor dest ls) (numbers_for dest last ls)
 all_for dest last [] r = tt
 all_for dest last (x ∷ ls) r =
@@ -110,6 +107,6 @@ all_for dest last (x ∷ ls) r =
         → AllByRecursion (IsFor dest (x ∷ ls)) (map (λ (l : Letter). l.number) (cond b (x ∷ filter (λ (l : Letter). same_call l.dest dest && nat_lt last l.number) ls) (filter (λ (l : Letter). same_call l.dest dest && nat_lt last l.number) ls)))
     by true e rest =
         let own : (x.number == x.number) ≡ true = grind arith in
-        let to : x.dest ≡ dest = same_is x.dest dest (both_true (same_call x.dest dest) (nat_lt last x.number) e) in
+        let to : x.dest ≡ dest = same_is x.dest dest (and_left (same_call x.dest dest) (nat_lt last x.number) e) in
         ((x, ap (λ b. cond b (Some x) (letter_of x.number ls)) own, to), rest)
     by false e rest = rest

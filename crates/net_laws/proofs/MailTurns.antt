@@ -7,14 +7,14 @@ use Rattle.radio_base.specs.declared.modulus.LinkModulus.TheVariants.{Modulo8}
 use Rattle.ax_address.specs.Callsign.{Callsign, IsCallsign}
 use Rattle.circuit_l4.specs.Halves.{first_or}
 use Rattle.circuit_l4.specs.State.{inbox, is_up}
-use Rattle.circuit_set.specs.Books.{Book, Fresh, empty, with_event, with_events, partner}
+use Rattle.circuit_set.specs.Books.{Book, Fresh, empty, with_events, partner}
 use Rattle.circuit_set.specs.ByBook.{FreshByBook, PartnersByBook}
 use Rattle.circuit_table.specs.CircuitSets.{partner_at}
 use Rattle.circuit_table.specs.Events.{Event, Name}
 use Rattle.circuit_set.specs.Facing.{EndsStay, Faces, PartnersFace}
 use Rattle.circuit_set.specs.NotedRuns.{Net, begins, end_at, net_run, net_step}
 use Rattle.circuit_set.specs.Returning.{CallsDiffer}
-use Rattle.circuit_table.specs.Runs.{AreStarts, AreSteps, Step, end_in, end_named, events_of, sets_at, sets_run, told_at}
+use Rattle.circuit_table.specs.Runs.{AreStarts, Step, end_in, end_named, events_of, sets_at, sets_run, told_at}
 use Rattle.circuit_set.specs.Safe.{CircuitsSafe, PartnersLast, Safe, SafeAlone}
 use Rattle.circuit_table.specs.Sets.{Act, Holder, SetState, end_of, set_step}
 use Rattle.circuit_table.specs.Standing.{message_at, take_answer}
@@ -52,7 +52,7 @@ use Rattle.net_model.proofs.Containing.{AreApart, Contains, TracksAt, name_at, n
 use Rattle.net_laws.proofs.EndWrites as ends
 use Rattle.net_laws.proofs.EndWrites.{Leads_to, WritesOnly, are_silent, leads_walk, none_only, one_only, only_walk, same_end, silent_walk, wrote_more}
 use Rattle.net_laws.proofs.LineRuns.{is_run}
-use Rattle.net_laws.proofs.Lists.{front, get_put}
+use Rattle.net_laws.proofs.Lists.{front}
 use Rattle.net_model.proofs.Looks.{answers, ends_of_placed, joined, offer_where, put_of, reaches}
 use Rattle.net_laws.proofs.MailMoves as moves
 use Rattle.net_laws.proofs.MailMoves.{EachKeeps, Goes, Holds, InTime, Mails, NodeKeeps, Wrote_in, joined_some, keeps}
@@ -61,6 +61,9 @@ use Rattle.net_laws.proofs.MailRuns as runs
 use Rattle.net_laws.proofs.MailRuns.{IsWritten, Reached, message, written_last}
 use Rattle.net_model.proofs.MailWalks.{put_mails}
 use Rattle.net_laws.proofs.MovesRun.{reach_contains}
+use Rattle.net_model.proofs.Changing.{get_set}
+use Rattle.net_laws.proofs.Retrying.{front_are}
+use Rattle.circuit_set.proofs.Noting.{noted_append}
 
 -- ---- a message that is taken is the first that waits
 
@@ -141,10 +144,6 @@ put_ends line at came w k = put_ends_case line at came w k (slice_get w.nodes at
 
 -- ---- runs
 
-noted_append : (b : Book) (xs ys : List Event) → with_events b (xs ++ ys) ≡ with_events (with_events b xs) ys
-noted_append b [] ys = refl
-noted_append b (x ∷ xs) ys = noted_append (with_event b x) xs ys
-
 run_book : (net : Net) (steps : List Step) → (net_run net steps).book ≡ with_events net.book (events_of net.sets steps)
 run_book net [] = refl
 run_book net (st ∷ sts) =
@@ -177,10 +176,6 @@ events_then sets (st ∷ sts) later =
     let next : List SetState = sets_at sets st.node (slice_get sets st.node) st.act in
     let told : List Event = told_at sets st.node (slice_get sets st.node) st.act in
     let r = events_then next sts later in (r.0, ap (λ es. told ++ es) r.1 ∙ sym (append_assoc told (events_of next sts) r.0))
-
-front_are : (xs ys : List Step) → AreSteps (xs ++ ys) → AreSteps xs
-front_are [] ys a = tt
-front_are (x ∷ xs) ys a = (a.0, front_are xs ys a.1)
 
 module _ (plan : Plan) (apart : AreApart (names (new_nodes plan))) (are_steps : InputsAreSteps) (bytes : BytesRun) (ticks : TicksRun) (acts_run : ActsRun)
     (wrote_law : EndsWroteByWrites) (stay : EndsStay) (starts : AreStarts (first_sets plan)) (calls : CallsDiffer (first_sets plan))
@@ -522,7 +517,7 @@ module _ (plan : Plan) (apart : AreApart (names (new_nodes plan))) (are_steps : 
         x = with_mail at next v
 
         there_v : slice_get v.nodes at ≡ Some (record p { state = worlds.all_told n })
-        there_v = get_put w.nodes at p (record p { state = worlds.all_told n }) e
+        there_v = get_set w.nodes at p (record p { state = worlds.all_told n }) e
 
         named : slice_get Declared at ≡ Some p.declared
         named = ap (λ xs. slice_get xs at) (sym c.names_are) ∙ name_at w.nodes at p e
@@ -571,7 +566,7 @@ module _ (plan : Plan) (apart : AreApart (names (new_nodes plan))) (are_steps : 
                   let kept_run : MailRun = with_store h.run p.declared.call next in
                   let m : MailRun = with_written kept_run p.declared.call from (wire_octets wire) in
                   let reached : Reaches m = subst (λ o. Reaches (mail.answers kept_run (message from p.declared.call text) true o)) a g.reached in
-                  let now : mail_at at x ≡ Some next = ap joined (get_put v.mails at (Some s) (Some next) (joined_some (slice_get v.mails at) s mine)) in
+                  let now : mail_at at x ≡ Some next = ap joined (get_set v.mails at (Some s) (Some next) (joined_some (slice_get v.mails at) s mine)) in
                   let leads : LeadsTo (steps ++ first_more) at id from =
                   leads_walk wrote_law stay (first_sets plan) starts Declared first_more steps at id from (got.end, known_end steps w at id p got.end c e got.there, to) in
                   let end = r.holds m next p.declared from reached now named (written_last h.run.written p.declared.call from (wire_octets wire)) leads

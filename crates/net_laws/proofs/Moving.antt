@@ -33,10 +33,10 @@ use Rattle.net_model.specs.Ends.{ends_of, note_entry, note_event, note_events, n
 use Rattle.net_model.specs.Events as events
 use Rattle.net_model.specs.Events.{Event, NumberedEvent}
 use Rattle.net_model.specs.Lines.{loss_of, losses_of}
-use Rattle.net_model.specs.Starting.{Placed, started}
+use Rattle.net_model.specs.Starting.{Placed, started, has_number}
 use Rattle.node_settings.specs.Settings.{config_of, is_via_of, path_of, with_via, with_via_by, with_vias}
 use Rattle.net_model.specs.World.{all_fetched_of, numbered}
-use Rattle.net_model.proofs.Containing.{Tracks, at_name, ends_config, events_by, is_named, told_by}
+use Rattle.net_model.proofs.Containing.{Tracks, at_name, ends_config, events_by, told_by}
 use Rattle.net_model.proofs.Remembering.{Past, Rising, below_none, lift, rising_le, rising_more}
 
 -- ---- what the entries of a node tell
@@ -103,7 +103,7 @@ entries_other line number n (e ∷ es) ends d =
 abbrev pub TellsAt : List Declaration → ℕ → ℕ → Callsign → Type 0
 TellsAt ds number at call = (line : ℕ) (told : CircuitTold) → told_by ds line number told ≡ record { line = line; event = record { node = at; own = call; told = told } } ∷ []
 
-pub tells_at : (ds : List Declaration) (number at : ℕ) (d : Declaration) → position_or_len (is_named number) ds ≡ at → slice_get ds at ≡ Some d → TellsAt ds number at d.call
+pub tells_at : (ds : List Declaration) (number at : ℕ) (d : Declaration) → position_or_len (has_number number) ds ≡ at → slice_get ds at ≡ Some d → TellsAt ds number at d.call
 tells_at ds number at d p e line told =
     ap (λ k. at_name line k (slice_get ds k) told) p ∙ ap (λ o. at_name line at o told) e
 

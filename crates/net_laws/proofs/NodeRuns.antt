@@ -3,15 +3,12 @@ use Rattle.std.proofs.Common.{◌≡◌, ◌∙◌, ◌+◌, ℕ, zero, suc, ref
 use Rattle.std.specs.Prelude.{false, slice_get, slice_set, Option, Some, None, Result, Ok, Err}
 use Rattle.std.specs.List.{AllByRecursion}
 use Rattle.radio_base.specs.declared.modulus.LinkModulus.{LinkModulus}
-use Rattle.ax_address.specs.Callsign.{Callsign}
 use Rattle.circuit_l4.specs.declared.pair.Pair.{Pair}
 use Rattle.link_table.specs.Calls as links
 use Rattle.link_table.specs.Reaching.{IsCall}
 use Rattle.link_table.specs.declared.path_refusal.PathRefusal.{PathRefusal}
 use Rattle.network_file.specs.declared.plan.instructions.NumberedInstruction.{NumberedInstruction}
 use Rattle.network_file.specs.declared.plan.declarations.Declaration.{Declaration}
-use Rattle.network_file.specs.declared.plan.instructions.Instruction.{Instruction}
-use Rattle.network_file.specs.declared.plan.instructions.Instruction.TheVariants as instructions
 use Rattle.network_file.specs.declared.plan.vias.Via.{Via}
 use Rattle.network_file.specs.Plan.{Plan}
 use Rattle.node_core.specs.declared.config.NodeConfig.{NodeConfig}
@@ -23,17 +20,18 @@ use Rattle.node_model.specs.Sessions.{Session}
 use Rattle.node_model.specs.States.{NodeState, State, fetch_entry, fetch_frame, frames}
 use Rattle.node_core.specs.Acts as acts
 use Rattle.node_core.specs.Acts.{UserAct}
-use Rattle.net_model.specs.SoundPlans.{IsInstruction, IsLine, IsSound}
+use Rattle.net_model.specs.SoundPlans.{IsLine, IsSound}
 use Rattle.net_model.specs.Ends.{ends_of}
 use Rattle.net_model.specs.Lines.{do_lines}
 use Rattle.net_model.specs.Starting.{Placed, by_number, new_nodes, new_placed, started}
 use Rattle.node_settings.specs.Settings.{config_of, is_via_of, path_of, with_via, with_via_by, with_vias}
 use Rattle.net_model.specs.World as worlds
 use Rattle.net_model.specs.World.{Input, Time, World, after, all_fetched_of, all_told, place_of_node, put, reach, start}
-use Rattle.net_model.proofs.LineWalks.{IsPlain, LineIs, Moves, lines_lead}
+use Rattle.net_model.proofs.LineWalks.{IsPlain, LineIs, Moves, lines_lead, AnyPair, line_is}
 use Rattle.net_laws.proofs.Lists.{both, every, front, one_of, put_each}
 use Rattle.net_model.proofs.Looks.{put_of, reaches, restart_of}
 use Rattle.net_laws.proofs.SentBefore.{own_calls}
+use Rattle.net_model.proofs.MailWalks.{AnyCall}
 
 -- ---- inputs one after another
 
@@ -136,17 +134,6 @@ input_is : (now : ℕ) (i : Input) (n : NodeState) → nodes.after (input_of now
 input_is now (worlds.Bytes bytes) n = refl
 input_is now Time n = refl
 input_is now (worlds.Act act) n = refl
-
--- nothing is asked of whom broadcasts are heard from, to whom routes are locked, and at which pair a node starts again
-abbrev AnyCall : Callsign → Type 0
-AnyCall call = Unit {0}
-
-abbrev AnyPair : Pair → Type 0
-AnyPair pair = Unit {0}
-
-line_is : (i : Instruction) → IsInstruction i → LineIs AnyCall AnyCall AnyPair i
-line_is (instructions.Open node dest) i = i
-line_is other i = tt
 
 plain_asks : (now : ℕ) (act : UserAct) → IsPlain act → AsksForCall (nodes.Acts now act)
 plain_asks now (acts.Connect dest) i = absurd i

@@ -24,8 +24,9 @@ use Rattle.node_model.specs.States as states
 use Rattle.net_model.specs.Circuits.{CircuitEvent}
 use Rattle.net_model.specs.Events as events
 use Rattle.net_model.specs.Events.{Event, NumberedEvent}
-use Rattle.net_model.proofs.Containing.{at_name, event_by, events_by, is_named, told_by}
+use Rattle.net_model.proofs.Containing.{at_name, event_by, events_by, told_by}
 use Rattle.net_laws.proofs.Lists.{both, one_of}
+use Rattle.net_model.specs.Starting.{has_number}
 
 -- ---- the origin that is read
 
@@ -86,7 +87,7 @@ module _ (P : CircuitEvent → Type 0) (ds : List Declaration) (each : (line k :
   name_all line k told (Some d) e = (each line k d told e, tt)
 
   told_all : (line number : ℕ) (told : CircuitTold) → AllByRecursion P (told_by ds line number told)
-  told_all line number told = let k : ℕ = position_or_len (is_named number) ds in name_all line k told (slice_get ds k) refl
+  told_all line number told = let k : ℕ = position_or_len (has_number number) ds in name_all line k told (slice_get ds k) refl
 
   event_all : (line : ℕ) (e : Event) → AllByRecursion P (event_by ds line e)
   event_all line (events.Entry node (states.Of_set (pumps.Of told))) = told_all line node told

@@ -1,6 +1,6 @@
 -- A network of which no datagram and no pair comes back too late is safe at each line.
 use Rattle.std.proofs.Common.{◌≡◌, ◌∙◌, ◌≤◌, ℕ, refl, sym, ap, subst, arith, List, [], ◌∷◌, ◌++◌, append_assoc, map, Bool, true, false, cond}
-use Rattle.std.specs.Prelude.{◌&&◌, ◌||◌, ◌==◌, nat_le, find, slice_get, unwrap_or, Option, None, Ok, Some}
+use Rattle.std.specs.Prelude.{◌||◌, ◌==◌, nat_le, find, slice_get, unwrap_or, Option, None, Ok, Some}
 use Rattle.std.specs.Option.{option_map}
 use Rattle.std.specs.List.{AllByRecursion}
 use Rattle.circuit_set.specs.Books.{Fresh, empty}
@@ -30,6 +30,7 @@ use Rattle.net_model.specs.Starting.{Placed, by_number, new_placed}
 use Rattle.net_model.specs.World.{World, start}
 use Rattle.net_model.proofs.WhatWasTold.{told_are}
 use Rattle.net_laws.proofs.Moving.{set_is}
+use Rattle.node_core.proofs.Tracing.{and_right}
 
 -- ---- before version 3 no window is above 64
 
@@ -37,14 +38,10 @@ window_fits : (k : Key) (version value : ℕ) → same_key k Window ≡ true →
 window_fits Window version value s t v = let fits : nat_le value 64 ≡ true = sym (ap (λ b. b || nat_le value 64) v) ∙ t in grind (arith, fits)
 window_fits key version value s t v = absurd (cc s)
 
-both : (a b : Bool) → (a && b) ≡ true → b ≡ true
-both true b e = e
-both false b e = absurd (cc e)
-
 narrow_case : (b : Bool) (version node : ℕ) (s : Assignment) (ss : List Assignment) → is_of node Window s ≡ b → takes version s.key s.value ≡ true → nat_le 3 version ≡ false
     → unwrap_or (option_map (λ (x : Assignment). x.value) (find (is_of node Window) ss)) 4 ≤ 64
     → unwrap_or (option_map (λ (x : Assignment). x.value) (cond b (Some s) (find (is_of node Window) ss))) 4 ≤ 64
-narrow_case true version node s ss e t v rest = window_fits s.key version s.value (both (s.node == node) (same_key s.key Window) e) t v
+narrow_case true version node s ss e t v rest = window_fits s.key version s.value (and_right (s.node == node) (same_key s.key Window) e) t v
 narrow_case false version node s ss e t v rest = rest
 
 narrow_in : (version node : ℕ) (ss : List Assignment) → AllByRecursion (IsAllowed version) ss → nat_le 3 version ≡ false

@@ -5,9 +5,9 @@ use Rattle.circuit_table.specs.Runs.{AreSteps, Step}
 use Rattle.net_laws.specs.Promises.{NetworksAreSound, RunsThrough, WorldsAreRuns, EachTellsRetries}
 use Rattle.net_model.specs.SoundPlans.{first_sets}
 
-front_steps : (xs ys : List Step) → AreSteps (xs ++ ys) → AreSteps xs
-front_steps [] ys a = tt
-front_steps (x ∷ xs) ys a = (a.0, front_steps xs ys a.1)
+pub front_are : (xs ys : List Step) → AreSteps (xs ++ ys) → AreSteps xs
+front_are [] ys a = tt
+front_are (x ∷ xs) ys a = (a.0, front_are xs ys a.1)
 
 pub each_tells_retries : NetworksAreSound → WorldsAreRuns → sets.RetriesAreTold → EachTellsRetries
 each_tells_retries sounds runs told bytes plan e done later is =
@@ -15,5 +15,5 @@ each_tells_retries sounds runs told bytes plan e done later is =
     record {
       steps = r.steps;
       run = r.is;
-      told = λ before after s. told (first_sets plan) (sounds bytes plan e).starts before (front_steps before after (subst AreSteps s r.is.are));
+      told = λ before after s. told (first_sets plan) (sounds bytes plan e).starts before (front_are before after (subst AreSteps s r.is.are));
     }

@@ -19,9 +19,9 @@ use Rattle.net_model.specs.SoundPlans.{first_sets, set_of}
 use Rattle.net_laws.specs.Datagrams.{DatagramsSent, SendsAll}
 use Rattle.net_model.specs.Lines.{do_lines}
 use Rattle.net_laws.specs.Returning.{CopiesAloneReturn, told_of_circuits}
-use Rattle.net_model.specs.Starting.{by_number, new_nodes, new_placed}
+use Rattle.net_model.specs.Starting.{by_number, new_nodes, new_placed, has_number}
 use Rattle.net_model.specs.World.{start}
-use Rattle.net_model.proofs.Containing.{AreApart, is_named, names}
+use Rattle.net_model.proofs.Containing.{AreApart, names}
 use Rattle.net_laws.proofs.Lists.{one_of}
 use Rattle.net_laws.proofs.LineRuns.{nodes_apart, placed_names}
 use Rattle.net_laws.proofs.Moving.{set_is}
@@ -93,7 +93,7 @@ module _ (plan : Plan) (own : HaveOwnCalls plan.declared) (apart : AreApart (nam
       let all : AllByRecursion (λ (x : Declaration). In x plan.declared) ds = by_number_all (λ (x : Declaration). In x plan.declared) plan.declared 16 1 (all_in plan.declared) in
       let one : d.0 ≡ c.0 =
       one_call d.0 c.0 plan.declared own (one_of (λ (x : Declaration). In x plan.declared) ds i d.0 all d.1) (one_of (λ (x : Declaration). In x plan.declared) ds j c.0 all c.1) (sym d.2 ∙ (same ∙ c.2)) in
-      sym (ds_apart i d.0 d.1) ∙ (ap (λ (x : Declaration). position_or_len (is_named x.node) ds) one ∙ ds_apart j c.0 c.1)
+      sym (ds_apart i d.0 d.1) ∙ (ap (λ (x : Declaration). position_or_len (has_number x.node) ds) one ∙ ds_apart j c.0 c.1)
 
 -- ---- the law
 

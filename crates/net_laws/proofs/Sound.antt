@@ -1,6 +1,6 @@
 -- Each network of a file is sound: what its lines set is within the ranges of the keys, and what stands for calls and pairs are some.
 use Rattle.std.proofs.Common.{◌≡◌, ◌≤◌, ◌^◌, ℕ, refl, sym, subst, arith, List, [], ◌∷◌, map, Bool, true, false, cond}
-use Rattle.std.specs.Prelude.{◌&&◌, ◌==◌, find, unwrap_or, Some}
+use Rattle.std.specs.Prelude.{◌==◌, find, unwrap_or, Some}
 use Rattle.std.specs.Option.{option_map}
 use Rattle.std.specs.List.{AllByRecursion}
 use Rattle.circuit_l4.specs.Opening as ends
@@ -21,19 +21,16 @@ use Rattle.net_model.specs.Starting.{by_number, new_placed}
 use Rattle.net_model.proofs.Containing.{ends_config}
 use Rattle.net_laws.proofs.Moving.{first_set, set_is}
 use Rattle.net_laws.proofs.SentBefore.{by_number_all}
+use Rattle.node_core.proofs.Tracing.{and_right}
 
 -- ---- a key's value
-
-right : (a b : Bool) → (a && b) ≡ true → b ≡ true
-right true b e = e
-right false b e = absurd (cc e)
 
 -- it is that of a setting of the key, or its default
 module _ (P : ℕ → Type 0) (k : Key) (node : ℕ) (each : (s : Assignment) → same_key s.key k ≡ true → IsInRange s → P s.value) (default : P (default_of k)) where
   value_case : (b : Bool) (s : Assignment) (ss : List Assignment) → is_of node k s ≡ b → IsInRange s
       → P (unwrap_or (option_map (λ (x : Assignment). x.value) (find (is_of node k) ss)) (default_of k))
       → P (unwrap_or (option_map (λ (x : Assignment). x.value) (cond b (Some s) (find (is_of node k) ss))) (default_of k))
-  value_case true s ss e r rest = each s (right (s.node == node) (same_key s.key k) e) r
+  value_case true s ss e r rest = each s (and_right (s.node == node) (same_key s.key k) e) r
   value_case false s ss e r rest = rest
 
   value_is : (ss : List Assignment) → AllByRecursion IsInRange ss → P (value_of ss node k)

@@ -24,34 +24,11 @@ use Rattle.net_model.specs.Circuits.{CircuitEvent}
 use Rattle.net_model.specs.Ends.{ends_of, note_event, note_events, with_offered}
 use Rattle.net_model.specs.Events as events
 use Rattle.net_model.specs.Events.{Event, NumberedEvent}
-use Rattle.net_model.specs.Starting.{Placed, new_nodes}
+use Rattle.net_model.specs.Starting.{Placed, new_nodes, has_number}
 use Rattle.node_settings.specs.Settings.{config_of}
 use Rattle.net_model.specs.World.{is_node, numbered, place_of_node}
 use Rattle.net_model.proofs.Remembering.{Past, Rising, lift}
-
--- ---- lists
-
-get_set : {A : Type 0} (xs : List A) (i : ℕ) (x y : A) → slice_get xs i ≡ Some x → slice_get (slice_set xs i y) i ≡ Some y
-get_set [] i x y e = absurd (cc e)
-get_set (z ∷ xs) zero x y e = refl
-get_set (z ∷ xs) (suc i) x y e = get_set xs i x y e
-
-get_other : {A : Type 0} (xs : List A) (i j : ℕ) (y : A) → i ≢ j → slice_get (slice_set xs i y) j ≡ slice_get xs j
-get_other [] i j y n = refl
-get_other (z ∷ xs) zero zero y n = absurd (n refl)
-get_other (z ∷ xs) zero (suc j) y n = refl
-get_other (z ∷ xs) (suc i) zero y n = refl
-get_other (z ∷ xs) (suc i) (suc j) y n = get_other xs i j y (λ e. n (ap suc e))
-
-pub set_same : {A : Type 0} (xs : List A) (i : ℕ) (x : A) → slice_get xs i ≡ Some x → slice_set xs i x ≡ xs
-set_same [] i x e = refl
-set_same (z ∷ xs) zero x e = let same : z ≡ x = cc e in ap (λ y. y ∷ xs) (sym same)
-set_same (z ∷ xs) (suc i) x e = ap (λ ys. z ∷ ys) (set_same xs i x e)
-
-map_set : {A B : Type 0} (f : A → B) (xs : List A) (i : ℕ) (x y : A) → slice_get xs i ≡ Some x → f y ≡ f x → map f (slice_set xs i y) ≡ map f xs
-map_set f [] i x y e s = refl
-map_set f (z ∷ xs) zero x y e s = let same : z ≡ x = cc e in ap (λ b. b ∷ map f xs) (s ∙ ap f (sym same))
-map_set f (z ∷ xs) (suc i) x y e s = ap (λ bs. f z ∷ bs) (map_set f xs i x y e s)
+use Rattle.net_model.proofs.Changing.{get_set, get_other, map_set}
 
 -- ---- steps of several sets
 
@@ -87,10 +64,7 @@ up_at node (x ∷ xs) a = (a.0, up_at node xs a.1)
 abbrev pub names : List Placed → List Declaration
 names nodes = map (λ p. p.declared) nodes
 
-abbrev pub is_named : ℕ → Declaration → Bool
-is_named number d = d.node == number
-
-pub place_named : (number : ℕ) (nodes : List Placed) → place_of_node number nodes ≡ position_or_len (is_named number) (names nodes)
+pub place_named : (number : ℕ) (nodes : List Placed) → place_of_node number nodes ≡ position_or_len (has_number number) (names nodes)
 place_named number [] = refl
 place_named number (p ∷ nodes) = ap (λ n. cond (not (is_node number p)) (1 + n) 0) (place_named number nodes)
 
@@ -100,7 +74,7 @@ at_name line at None told = []
 at_name line at (Some d) told = record { line = line; event = record { node = at; own = d.call; told = told } } ∷ []
 
 abbrev pub told_by : List Declaration → ℕ → ℕ → CircuitTold → List CircuitEvent
-told_by ds line number told = at_name line (position_or_len (is_named number) ds) (slice_get ds (position_or_len (is_named number) ds)) told
+told_by ds line number told = at_name line (position_or_len (has_number number) ds) (slice_get ds (position_or_len (has_number number) ds)) told
 
 abbrev pub event_by : List Declaration → ℕ → Event → List CircuitEvent
 event_by ds line (events.Entry node (states.Of_set (pumps.Of told))) = told_by ds line node told
@@ -120,7 +94,7 @@ at_named (p ∷ nodes) line at (suc k) told = at_named nodes line at k told
 pub told_named : (nodes : List Placed) (line number : ℕ) (told : CircuitTold) → circuits.told_at nodes line number told ≡ told_by (names nodes) line number told
 told_named nodes line number told =
     ap (λ k. circuits.at_node line k (slice_get nodes k) told) (place_named number nodes)
-    ∙ at_named nodes line (position_or_len (is_named number) (names nodes)) (position_or_len (is_named number) (names nodes)) told
+    ∙ at_named nodes line (position_or_len (has_number number) (names nodes)) (position_or_len (has_number number) (names nodes)) told
 
 pub event_named : (nodes : List Placed) (line : ℕ) (e : Event) → circuits.event_at nodes line e ≡ event_by (names nodes) line e
 event_named nodes line (events.Entry node (states.Of_set (pumps.Of told))) = told_named nodes line node told
@@ -231,7 +205,7 @@ pub record TracksAt (plan : Plan) (told : List NumberedEvent) (ss : List SetStat
 
 -- no two nodes have one number
 abbrev pub AreApart : List Declaration → Type 0
-AreApart ds = (at : ℕ) (d : Declaration) → slice_get ds at ≡ Some d → position_or_len (is_named d.node) ds ≡ at
+AreApart ds = (at : ℕ) (d : Declaration) → slice_get ds at ≡ Some d → position_or_len (has_number d.node) ds ≡ at
 
 pub name_at : (nodes : List Placed) (at : ℕ) (p : Placed) → slice_get nodes at ≡ Some p → slice_get (names nodes) at ≡ Some p.declared
 name_at [] at p e = absurd (cc e)
@@ -275,14 +249,14 @@ pub record Comes (plan : Plan) (told : List NumberedEvent) (at : ℕ) (p q : Pla
 
 module _ (plan : Plan) (apart : AreApart (names (new_nodes plan))) (are_steps : InputsAreSteps) where
   pub place_is : (steps : List Step) (nodes : List Placed) (told : List NumberedEvent) (at : ℕ) (p : Placed) → Contains plan steps nodes told → slice_get nodes at ≡ Some p
-      → position_or_len (is_named p.declared.node) (names (new_nodes plan)) ≡ at
+      → position_or_len (has_number p.declared.node) (names (new_nodes plan)) ≡ at
   place_is steps nodes told at p c e =
       apart at p.declared (ap (λ ds. slice_get ds at) (sym c.names_are) ∙ name_at nodes at p e)
 
   pub other_number : (steps : List Step) (nodes : List Placed) (told : List NumberedEvent) (at k : ℕ) (p r : Placed) → Contains plan steps nodes told → slice_get nodes at ≡ Some p → slice_get nodes k ≡ Some r
       → at ≢ k → r.declared.node ≢ p.declared.node
   other_number steps nodes told at k p r c e f n same =
-      n (sym (place_is steps nodes told at p c e) ∙ (ap (λ m. position_or_len (is_named m) (names (new_nodes plan))) (sym same) ∙ place_is steps nodes told k r c f))
+      n (sym (place_is steps nodes told at p c e) ∙ (ap (λ m. position_or_len (has_number m) (names (new_nodes plan))) (sym same) ∙ place_is steps nodes told k r c f))
 
   pub comes_at : (steps : List Step) (nodes : List Placed) (told es : List NumberedEvent) (at : ℕ) (p q : Placed) (s : SetState) (inputs : List Act) → Contains plan steps nodes told
       → slice_get nodes at ≡ Some p → slice_get (sets_run (first_sets plan) steps) at ≡ Some s → Comes plan told at p q s inputs es

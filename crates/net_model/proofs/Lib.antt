@@ -1,3 +1,4 @@
+pub mod Changing
 pub mod Oldest
 pub mod Noting
 pub mod Numbers

@@ -43,8 +43,9 @@ use Rattle.net_model.specs.World as worlds
 use Rattle.net_model.specs.Mailing.{ends_here, mail_at, mail_in, unless_agents, with_mail}
 use Rattle.node_mail.specs.Lists.{Lists}
 use Rattle.net_model.proofs.Containing.{IsQuiet}
-use Rattle.net_model.proofs.Looks.{answers, burst_by, deliver_of, ends_of_placed, put_of, reaches, shown_of, spread_of}
-use Rattle.net_model.proofs.MailWalks.{AnyUser, TurnMoves, mail_goes, post_goes, put_mails, quiet_refusal, reach_mails, turns_of, unless_agents_goes}
+use Rattle.net_model.proofs.Looks.{answers, burst_by, deliver_of, ends_of_placed, put_of, reaches, shown_of, spread_of, flow_by, cut_by}
+use Rattle.net_model.proofs.MailWalks.{AnyCall, TurnMoves, mail_goes, post_goes, put_mails, quiet_refusal, reach_mails, turns_of, unless_agents_goes}
+use Rattle.net_model.specs.SoundPlans.{IsInstruction}
 
 -- ---- what is told of a line itself tells nothing of circuits
 
@@ -102,9 +103,17 @@ LineMay heard locks users again (instructions.Restart node pair) = again (record
 LineMay heard locks users again (instructions.Post node to dest text) = users to
 LineMay heard locks users again i = Unit {0}
 
+-- nothing is asked of the pair at which a node starts again
+abbrev pub AnyPair : Pair → Type 0
+AnyPair pair = Unit {0}
+
 -- for any user
 abbrev pub LineIs : (heard locks : Callsign → Type 0) → (again : Pair → Type 0) → Instruction → Type 0
-LineIs heard locks again i = LineMay heard locks AnyUser again i
+LineIs heard locks again i = LineMay heard locks AnyCall again i
+
+pub line_is : (i : Instruction) → IsInstruction i → LineIs AnyCall AnyCall AnyPair i
+line_is (instructions.Open node dest) i = i
+line_is other i = tt
 
 -- what is so of each move
 pub record Moves (plan : Plan) (Heard_from Locks : Callsign → Type 0) (Again : Pair → Type 0) (P : World → World → Type 0) : Type 0 where
@@ -144,9 +153,9 @@ pub record LineMoves (plan : Plan) (Heard_from Locks Users : Callsign → Type 0
   pub settles : (at : ℕ) (w : World) → P w (settle at w)
   pub later : (milliseconds : ℕ) (w : World) → P w (record w { now = w.now + milliseconds })
 
-lines_of : (plan : Plan) (Heard_from Locks : Callsign → Type 0) (Again : Pair → Type 0) (P : World → World → Type 0) → Moves plan Heard_from Locks Again P → LineMoves plan Heard_from Locks AnyUser Again P
+lines_of : (plan : Plan) (Heard_from Locks : Callsign → Type 0) (Again : Pair → Type 0) (P : World → World → Type 0) → Moves plan Heard_from Locks Again P → LineMoves plan Heard_from Locks AnyCall Again P
 lines_of plan Heard_from Locks Again P k = record {
-  turns = turns_of AnyUser P (record {
+  turns = turns_of AnyCall P (record {
     still = k.still;
     follows = k.follows;
     tells = k.tells;
@@ -189,11 +198,11 @@ answered : (act : UserAct) (now : ℕ) (o : Option Placed) (d : ActDone) (why : 
 answered act now None d why e = refl
 answered act now (Some p) d why e = let r = why p refl in let bad : Err r.0 ≡ Ok d = sym r.1 ∙ e in absurd (cc bad)
 
-reach_none : (line at : ℕ) (x : Input) (w : World) → slice_get w.nodes at ≡ None → reach line at x w ≡ w
+pub reach_none : (line at : ℕ) (x : Input) (w : World) → slice_get w.nodes at ≡ None → reach line at x w ≡ w
 unfolding reach
 reach_none line at x w e = ap (λ o. reaches line at x o w) e
 
-put_none : (line at : ℕ) (came : LinkModulus) (w : World) → slice_get w.nodes at ≡ None → put line at came w ≡ w
+pub put_none : (line at : ℕ) (came : LinkModulus) (w : World) → slice_get w.nodes at ≡ None → put line at came w ≡ w
 unfolding put
 put_none line at came w e = ap (λ o. put_of line at came o w) e
 
@@ -318,9 +327,6 @@ module _ (plan : Plan) (Heard_from Locks Users : Callsign → Type 0) (Again : P
   spread_leads line at None w = stays w
   spread_leads line at (Some f) w = all_leads line at (hearers w.channels f.sender) w
 
-  abbrev flow_by : ℕ → ℕ → World → Option ℕ → World
-  flow_by line count w o = elim o [ None ↦ w | Some at ↦ flow line count (spread line at (settle at w)) ]
-
   flow_case : (line count : ℕ) (w : World) (o : Option ℕ) → ((u : World) → P u (flow line count u)) → P w (flow_by line count w o)
   flow_case line count w None rest = stays w
   flow_case line count w (Some at) rest =
@@ -334,9 +340,6 @@ module _ (plan : Plan) (Heard_from Locks Users : Callsign → Type 0) (Again : P
 
   lost : (line at frame : ℕ) (w : World) → P w (lose_at line at frame w)
   lost line at frame w = next w (settle at w) (lose_at line at frame w) (k.settles at w) (one_told line (events.Settled frame) (settle at w) tt)
-
-  abbrev cut_by : ℕ → ℕ → World → Option ℕ → World
-  cut_by line count w o = elim o [ None ↦ w | Some at ↦ cut line count (lose_at line at (at + 1) w) ]
 
   cut_case : (line count : ℕ) (w : World) (o : Option ℕ) → ((u : World) → P u (cut line count u)) → P w (cut_by line count w o)
   cut_case line count w None rest = stays w
@@ -387,4 +390,4 @@ module _ (plan : Plan) (Heard_from Locks Users : Callsign → Type 0) (Again : P
 
 module _ (plan : Plan) (Heard_from Locks : Callsign → Type 0) (Again : Pair → Type 0) (P : World → World → Type 0) (k : Moves plan Heard_from Locks Again P) where
   pub lines_lead : (ls : List NumberedInstruction) (w : World) → AllByRecursion (λ (l : NumberedInstruction). LineIs Heard_from Locks Again l.instruction) ls → P w (do_lines plan ls w)
-  lines_lead ls w all = lines_go plan Heard_from Locks AnyUser Again P (lines_of plan Heard_from Locks Again P k) ls w all
+  lines_lead ls w all = lines_go plan Heard_from Locks AnyCall Again P (lines_of plan Heard_from Locks Again P k) ls w all

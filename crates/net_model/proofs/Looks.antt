@@ -1,6 +1,6 @@
 -- What is done at a place, by cases over what is found there.
 use Rattle.std.proofs.Common.{ℕ, ◌+◌, Bool, cond, List, [], ◌∷◌, map}
-use Rattle.std.specs.Prelude.{Option, None, option_map, unwrap_or, Result, Ok, is_ok, if◌then◌else◌}
+use Rattle.std.specs.Prelude.{Option, Some, None, option_map, unwrap_or, Result, Ok, is_ok, if◌then◌else◌}
 use Rattle.radio_base.specs.declared.modulus.LinkModulus.{LinkModulus}
 use Rattle.radio_base.specs.declared.modulus.LinkModulus.TheVariants.{Modulo8}
 use Rattle.ax_address.specs.Callsign.{Callsign}
@@ -16,7 +16,7 @@ use Rattle.node_model.specs.States.{NodeState, frames}
 use Rattle.node_mail.specs.Lists.{Lists}
 use Rattle.net_model.specs.declared.air.Aired.{Aired}
 use Rattle.net_model.specs.Events.{Delivered, Shown}
-use Rattle.net_model.specs.Lines.{burst_from, deliver_all, hear, kiss_bytes, restarts, table_of, wrote_of}
+use Rattle.net_model.specs.Lines.{burst_from, deliver_all, hear, kiss_bytes, restarts, table_of, wrote_of, cut, flow, lose_at, settle, spread}
 use Rattle.net_model.specs.Mailing.{offer_to}
 use Rattle.net_model.specs.Starting.{Placed}
 use Rattle.net_model.specs.World.{Input, World, after, aired, aired_as, put, puts, tell, tells_entries, with_found, with_state}
@@ -44,6 +44,12 @@ deliver_of line at node o w = with_found o (λ f v. hear line node (kiss_bytes f
 
 abbrev pub spread_of : ℕ → ℕ → Option Aired → World → World
 spread_of line at o w = with_found o (λ f. deliver_all line at (hearers w.channels f.sender)) w
+
+abbrev pub flow_by : ℕ → ℕ → World → Option ℕ → World
+flow_by line count w o = elim o [ None ↦ w | Some at ↦ flow line count (spread line at (settle at w)) ]
+
+abbrev pub cut_by : ℕ → ℕ → World → Option ℕ → World
+cut_by line count w o = elim o [ None ↦ w | Some at ↦ cut line count (lose_at line at (at + 1) w) ]
 
 abbrev pub shown_of : ℕ → Option Placed → World → World
 shown_of line o w = with_found o (λ p. tell line (Shown (table_of p) ∷ [])) w

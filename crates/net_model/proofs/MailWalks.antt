@@ -344,18 +344,19 @@ module _ (Users : Callsign → Type 0) (P : World → World → Type 0) (k : Tur
 
 -- ---- the same of the small moves
 
-abbrev pub AnyUser : Callsign → Type 0
-AnyUser call = Unit {0}
+-- nothing is asked of a call
+abbrev pub AnyCall : Callsign → Type 0
+AnyCall call = Unit {0}
 
 module _ (P : World → World → Type 0) (k : AgentMoves P) where
-  abbrev turns : TurnMoves AnyUser P
-  turns = turns_of AnyUser P k
+  abbrev turns : TurnMoves AnyCall P
+  turns = turns_of AnyCall P k
 
-  pub takes_lead : (line node at id more : ℕ) (a : Agent) → Goes AnyUser P turns line node at a (take_from line node at id more a)
-  takes_lead line node at id more a = takes_go AnyUser P turns line node at id more a
+  pub takes_lead : (line node at id more : ℕ) (a : Agent) → Goes AnyCall P turns line node at a (take_from line node at id more a)
+  takes_lead line node at id more a = takes_go AnyCall P turns line node at id more a
 
-  pub take_at_leads : (line node at : ℕ) (ids : List ℕ) (a : Agent) → Goes AnyUser P turns line node at a (take_at line node at ids a)
-  take_at_leads line node at ids a = take_at_goes AnyUser P turns line node at ids a
+  pub take_at_leads : (line node at : ℕ) (ids : List ℕ) (a : Agent) → Goes AnyCall P turns line node at a (take_at line node at ids a)
+  take_at_leads line node at ids a = take_at_goes AnyCall P turns line node at ids a
 
   pub offer_at_leads : (line node at : ℕ) (ids : List ℕ) (w : World) → P w (offer_at line node at ids w)
-  offer_at_leads line node at ids w = offer_at_goes AnyUser P turns line node at ids w
+  offer_at_leads line node at ids w = offer_at_goes AnyCall P turns line node at ids w

@@ -1,7 +1,7 @@
 -- What a verdict takes in of a trace, piece by piece.
-use Rattle.std.proofs.Common.{◌≡◌, ◌<◌, ◌≤◌, ◌++◌, ◌+◌, ◌∷◌, [], ◌∙◌, ℕ, List, map, length, drop, get_or, cond, refl, sym, ap, subst, append_assoc, append-nil, add-one, drop-cons}
+use Rattle.std.proofs.Common.{◌≡◌, ◌<◌, ◌≤◌, ◌++◌, ◌+◌, ◌∷◌, [], ◌∙◌, ℕ, List, map, length, drop, get_or, refl, sym, ap, subst, append_assoc, append-nil, add-one, drop-cons}
 use Rattle.std.proofs.lemmas.List.{drop_all}
-use Rattle.std.specs.Prelude.{Option, Some, None, not, ◌==◌, slice_get}
+use Rattle.std.specs.Prelude.{Option, Some, None, slice_get}
 use Rattle.std.specs.List.{position_or_len}
 use Rattle.std.specs.Option.{option_map}
 use Rattle.std.proofs.lemmas.Option.{slice_get-map}
@@ -25,6 +25,7 @@ use Rattle.net_model.specs.Standing.{AreDeclared}
 use Rattle.net_model.specs.Starting.{Placed, has_number}
 use Rattle.net_model.specs.Standing.{IsTraceOf, Left}
 use Rattle.net_model.specs.World.{World, place_of_node}
+use Rattle.net_model.proofs.Containing.{place_named}
 
 -- ---- nothing, and one list behind another
 
@@ -88,13 +89,9 @@ event_told nodes line other = refl
 
 -- ---- what is told at the node of a number
 
-at_same : (number : ℕ) (ps : List Placed) → position_or_len (has_number number) (map (λ p. p.declared) ps) ≡ place_of_node number ps
-at_same number [] = refl
-at_same number (p ∷ ps) = ap (λ k. cond (not (p.declared.node == number)) (1 + k) 0) (at_same number ps)
-
 there : (number : ℕ) (declared : List Declaration) (nodes : List Placed) → AreDeclared declared nodes
     → position_or_len (has_number number) declared ≡ place_of_node number nodes
-there number declared nodes e = ap (position_or_len (has_number number)) e ∙ at_same number nodes
+there number declared nodes e = ap (position_or_len (has_number number)) e ∙ sym (place_named number nodes)
 
 one_at : (line at : ℕ) (o : Option Placed) (told : sets.CircuitTold) (own : Callsign) → option_map (λ p. p.declared.call) o ≡ Some own
     → at_node line at o told ≡ record { line = line; event = record { node = at; own = own; told = told } } ∷ []

@@ -15,7 +15,7 @@ use Rattle.net_world.specs.Running.{Course, GoesOn, Stands, airs, aired_one, cha
 use Rattle.net_model.specs.Starting.{Placed}
 use Rattle.net_model.specs.World.{World, air_events, aired_as, all_fetched_of, numbered, put, puts, tell}
 use Rattle.net_model.proofs.Looks.{change_of, put_by_of, put_of}
-use Rattle.net_world.proofs.Placing.{set_same, set_twice}
+use Rattle.net_model.proofs.Changing.{get_set, set_twice}
 use Rattle.net_world.proofs.Runs.{with_air}
 
 -- ---- a frame fetched
@@ -98,7 +98,7 @@ frame_case line at node on_air came v f p (g ∷ fs) is waits first =
     let q : Placed = record p { state = fetched_frame p.state } in
     let u : World = with_placed at q v in
     let one : List Aired = aired_one on_air node came f in
-    let got : slice_get u.nodes at ≡ Some q = set_same v.nodes at p q is in
+    let got : slice_get u.nodes at ≡ Some q = get_set v.nodes at p q is in
     let others : frames q.state.station ≡ fs = left_frames p.state.station ∙ ap (λ (xs : List Written). drop 1 xs) waits in
     let later : List Aired = of_node on_air node came fs in
     let all : one ++ later ≡ of_node on_air node came (frames p.state.station) =
@@ -177,10 +177,6 @@ pub put_is : (line at node : ℕ) (on_air : Bool) (came : LinkModulus) (w : Worl
     → put_by line at node on_air came w ≡ put line at came w
 unfolding put_by put
 put_is line at node on_air came w says same = ap (λ b. put_by_of line at node b came (slice_get w.nodes at) w) says ∙ put_case line at node came w (slice_get w.nodes at) same
-
-pub put_none : (line at : ℕ) (came : LinkModulus) (w : World) → slice_get w.nodes at ≡ None → put line at came w ≡ w
-unfolding put
-put_none line at came w e = ap (λ o. put_of line at came o w) e
 
 -- ---- one frame put in the air by the code
 

@@ -3,20 +3,18 @@ use Rattle.std.proofs.Common.{◌≡◌, ◌∙◌, ℕ, refl, List, [], ◌∷�
 use Rattle.std.specs.Prelude.{slice_get, Option, Some, None}
 use Rattle.std.specs.List.{AllByRecursion}
 use Rattle.radio_base.specs.declared.modulus.LinkModulus.{LinkModulus}
-use Rattle.ax_address.specs.Callsign.{Callsign}
 use Rattle.circuit_l4.specs.declared.pair.Pair.{Pair}
 use Rattle.network_file.specs.declared.plan.instructions.NumberedInstruction.{NumberedInstruction}
-use Rattle.network_file.specs.declared.plan.instructions.Instruction.{Instruction}
-use Rattle.network_file.specs.declared.plan.instructions.Instruction.TheVariants as instructions
 use Rattle.network_file.specs.Plan.{Plan}
 use Rattle.node_core.specs.Acts as acts
 use Rattle.net_model.specs.Lines.{restart, restarts, world}
-use Rattle.net_model.specs.SoundPlans.{IsInstruction, IsLine}
+use Rattle.net_model.specs.SoundPlans.{IsLine}
 use Rattle.net_model.specs.Starting.{Placed}
 use Rattle.net_model.specs.World as worlds
 use Rattle.net_model.specs.World.{Input, World, allowance_of, place_of_node, put, reach, start, with_found}
-use Rattle.net_model.proofs.LineWalks.{LineIs, Moves, lines_lead}
+use Rattle.net_model.proofs.LineWalks.{LineIs, Moves, lines_lead, AnyPair, line_is}
 use Rattle.net_model.proofs.Looks.{put_of, reaches}
+use Rattle.net_model.proofs.MailWalks.{AnyCall}
 
 abbrev Stays : World → World → Type 0
 Stays w v = v.allowance ≡ w.allowance
@@ -46,13 +44,7 @@ again_stays plan line number pair w = again_by plan line (place_of_node number w
 
 -- ---- the lines
 
-abbrev Any : Callsign → Type 0
-Any call = Unit {0}
-
-abbrev AnyPair : Pair → Type 0
-AnyPair pair = Unit {0}
-
-moves : (plan : Plan) → Moves plan Any Any AnyPair Stays
+moves : (plan : Plan) → Moves plan AnyCall AnyCall AnyPair Stays
 moves plan = record {
   still = λ w. refl;
   follows = λ u v w f g. g ∙ f;
@@ -70,14 +62,10 @@ moves plan = record {
   later = λ milliseconds w. refl;
 }
 
-line_is : (i : Instruction) → IsInstruction i → LineIs Any Any AnyPair i
-line_is (instructions.Open node dest) i = i
-line_is other i = tt
-
-lines_are : (ls : List NumberedInstruction) → AllByRecursion IsLine ls → AllByRecursion (λ (l : NumberedInstruction). LineIs Any Any AnyPair l.instruction) ls
+lines_are : (ls : List NumberedInstruction) → AllByRecursion IsLine ls → AllByRecursion (λ (l : NumberedInstruction). LineIs AnyCall AnyCall AnyPair l.instruction) ls
 lines_are [] a = tt
 lines_are (l ∷ ls) a = (line_is l.instruction a.0, lines_are ls a.1)
 
 pub allowance_stays : (plan : Plan) → AllByRecursion IsLine plan.instructions → (world plan).allowance ≡ allowance_of plan
 unfolding world
-allowance_stays plan are = lines_lead plan Any Any AnyPair Stays (moves plan) plan.instructions (start plan) (lines_are plan.instructions are)
+allowance_stays plan are = lines_lead plan AnyCall AnyCall AnyPair Stays (moves plan) plan.instructions (start plan) (lines_are plan.instructions are)

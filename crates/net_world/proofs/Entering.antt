@@ -13,7 +13,8 @@ use Rattle.net_world.specs.Running.{Course, IsFirst, Stands, all_entries, change
 use Rattle.net_model.specs.Starting.{Placed}
 use Rattle.net_model.specs.World.{Input, World, after, all_told, numbered, reach, tell}
 use Rattle.net_model.proofs.Looks.{all_entries_of, change_of, reaches}
-use Rattle.net_world.proofs.Placing.{at_place, declared_is, set_itself, set_same, set_twice}
+use Rattle.net_model.proofs.Changing.{get_set, set_same, set_twice}
+use Rattle.net_world.proofs.Placing.{at_place, declared_is}
 
 -- ---- what reaches a node, and then its entries
 
@@ -25,7 +26,7 @@ reach_case line at input w (Some p) e =
     let q : Placed = record p { state = n } in
     let v : World = record w { nodes = slice_set w.nodes at q } in
     let told : Placed = record p { state = all_told n } in
-    ap (λ o. all_entries_of line at o v) (set_same w.nodes at p q e)
+    ap (λ o. all_entries_of line at o v) (get_set w.nodes at p q e)
     ∙ ap (λ (ns : List Placed). tell line (map (Entry p.declared.node) n.station.entries) (record w { nodes = ns })) (set_twice w.nodes at q told)
 
 pub reach_is : (line at : ℕ) (input : Input) (w : World) → all_entries line at (change at (after w.now input) w) ≡ reach line at input w
@@ -48,7 +49,7 @@ entry_case line at v e p (f ∷ es) is entries first =
     let same : e ≡ f = cc in
     let q : Placed = record p { state = fetched_entry p.state } in
     let u : World = record v { nodes = slice_set v.nodes at q } in
-    let got : slice_get u.nodes at ≡ Some q = set_same v.nodes at p q is in
+    let got : slice_get u.nodes at ≡ Some q = get_set v.nodes at p q is in
     let left : q.state.station.entries ≡ es = ap (λ (xs : List states.Entry). drop 1 xs) entries in
     let told : Placed = record p { state = all_told p.state } in
     ap (λ o. all_entries_of line at (slice_get u.nodes at) (tell line (entry_events e o) u)) got
@@ -76,7 +77,7 @@ event_of_option line at v event None is first = absurd first
 event_of_option line at v event (Some p) is first =
     let q : Placed = record p { state = fetched_entry p.state } in
     let u : World = record v { nodes = slice_set v.nodes at q } in
-    let got : slice_get u.nodes at ≡ Some q = set_same v.nodes at p q is in
+    let got : slice_get u.nodes at ≡ Some q = get_set v.nodes at p q is in
     ap (λ e. all_entries line at (tell line (e ∷ []) u)) first.2
     ∙ (ap (λ o. all_entries line at (tell line (entry_events first.0 o) u)) (sym got) ∙ entry_case line at v first.0 p p.state.station.entries is refl first.1)
 
@@ -135,7 +136,7 @@ itself_case line at v p [] is entries first =
     let told : all_told p.state ≡ p.state = ap (λ (xs : List states.Entry). record (p.state) { station = record (p.state.station) { entries = xs } }) (sym entries) in
     ap (λ (xs : List states.Entry). tell line (map (Entry p.declared.node) xs) (record v { nodes = slice_set v.nodes at (record p { state = all_told p.state }) })) entries
     ∙ (ap (λ (n : NodeState). tell line [] (record v { nodes = slice_set v.nodes at (record p { state = n }) })) told
-    ∙ (ap (λ (ns : List Placed). tell line [] (record v { nodes = ns })) (set_itself v.nodes at p is) ∙ ap (λ (ts : List NumberedEvent). record v { told = ts }) (append-nil v.told)))
+    ∙ (ap (λ (ns : List Placed). tell line [] (record v { nodes = ns })) (set_same v.nodes at p is) ∙ ap (λ (ts : List NumberedEvent). record v { told = ts }) (append-nil v.told)))
 itself_case line at v p (e ∷ es) is entries first = absurd (cc)
 
 itself_of : (line at : ℕ) (v : World) (o : Option Placed) → slice_get v.nodes at ≡ o → None ≡ first_entry o → all_entries_of line at o v ≡ v

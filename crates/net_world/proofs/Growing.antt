@@ -22,9 +22,9 @@ use Rattle.net_model.specs.Events.{Delivered, Event, Wrote}
 use Rattle.net_model.specs.Lines.{all_wrote, burst_from, cut, deliver_all, deliver_at, do_act, do_line, do_lines, flow, hear, kiss_bytes, lose_at, refusal_events, settle, spread, tick_from, tick_node, events_of_act}
 use Rattle.net_model.specs.Refused.{of_act}
 use Rattle.net_model.specs.Starting.{Placed}
-use Rattle.net_model.proofs.Looks.{burst_by, deliver_of, put_of, reaches, restart_of, spread_of}
-use Rattle.net_model.proofs.LineWalks.{LineMoves, line_leads}
-use Rattle.net_model.proofs.MailWalks.{AgentMoves, AnyUser, turns_of}
+use Rattle.net_model.proofs.Looks.{burst_by, deliver_of, put_of, reaches, restart_of, spread_of, flow_by, cut_by}
+use Rattle.net_model.proofs.LineWalks.{LineMoves, line_leads, AnyPair}
+use Rattle.net_model.proofs.MailWalks.{AgentMoves, AnyCall, turns_of}
 use Rattle.net_model.proofs.Oldest.{length-settled_at}
 
 -- ---- the moves
@@ -126,11 +126,8 @@ settle_spread line at w =
     let more = spread_of_grows line at (slice_get (settled_at at w.air) at) (settle at w) in
     omega (arith, length-settled_at w.air at, more)
 
-abbrev flow_from : ℕ → ℕ → World → Option ℕ → World
-flow_from line count w o = elim o [ None ↦ w | Some at ↦ flow line count (spread line at (settle at w)) ]
-
 flow_from_grows : (line count : ℕ) (w : World) (o : Option ℕ) → ((v : World) → length v.air ≤ length (flow line count v).air)
-    → length w.air ≤ length (flow_from line count w o).air
+    → length w.air ≤ length (flow_by line count w o).air
 flow_from_grows line count w None rest = omega arith
 flow_from_grows line count w (Some at) rest =
     let first = settle_spread line at w in
@@ -141,9 +138,6 @@ pub flow_grows : (line count : ℕ) (w : World) → length w.air ≤ length (flo
 unfolding flow
 flow_grows line zero w = omega arith
 flow_grows line (suc count) w = flow_from_grows line count w (oldest w.air) (flow_grows line count)
-
-abbrev cut_from : ℕ → ℕ → World → Option ℕ → World
-cut_from line count w o = elim o [ None ↦ w | Some at ↦ cut line count (lose_at line at (at + 1) w) ]
 
 -- ---- mail
 
@@ -167,12 +161,9 @@ grown = record {
 reach_grows : (line at : ℕ) (input : Input) (w : World) → Grows w (reach line at input w)
 reach_grows line at input w = let count = ap (λ (air : List Aired). length air) (reach_stays line at input w) in omega (arith, count)
 
-abbrev AnyPair : Pair → Type 0
-AnyPair pair = Unit {0}
-
-growing : (plan : Plan) → LineMoves plan AnyUser AnyUser AnyUser AnyPair Grows
+growing : (plan : Plan) → LineMoves plan AnyCall AnyCall AnyCall AnyPair Grows
 growing plan = record {
-  turns = turns_of AnyUser Grows grown;
+  turns = turns_of AnyCall Grows grown;
   does = λ line at act w i. reach_grows line at (Act act) w;
   writes = λ line at id message w free. reach_grows line at (Act (acts.Write id message)) w;
   locks = λ line at dest alias neighbour quality w i. reach_grows line at (Act (acts.Lock dest alias neighbour quality)) w;
@@ -188,7 +179,7 @@ growing plan = record {
 
 line_grows : (plan : Plan) (line : ℕ) (instruction : Instruction) (w : World) → Grows w (do_line plan line instruction w)
 line_grows plan line (instructions.Open node dest) w = act_grows line node (acts.Connect dest) events_of_act w
-line_grows plan line other w = line_leads plan AnyUser AnyUser AnyUser AnyPair Grows (growing plan) line other w tt
+line_grows plan line other w = line_leads plan AnyCall AnyCall AnyCall AnyPair Grows (growing plan) line other w tt
 
 pub lines_grow : (plan : Plan) (ls : List NumberedInstruction) (w : World) → length w.air ≤ length (do_lines plan ls w).air
 lines_grow plan [] w = omega arith
@@ -202,21 +193,21 @@ lines_grow plan (l ∷ ls) w =
 pub flow_one : (line count at : ℕ) (w : World) → oldest w.air ≡ Some at
     → flow line (suc count) w ≡ flow line count (spread line at (settle at w))
 unfolding flow
-flow_one line count at w e = ap (flow_from line count w) e
+flow_one line count at w e = ap (flow_by line count w) e
 
 pub flow_none : (line count : ℕ) (w : World) → oldest w.air ≡ None → flow line count w ≡ w
 unfolding flow
 flow_none line zero w e = refl
-flow_none line (suc count) w e = ap (flow_from line count w) e
+flow_none line (suc count) w e = ap (flow_by line count w) e
 
 pub cut_one : (line count at : ℕ) (w : World) → oldest w.air ≡ Some at → cut line (suc count) w ≡ cut line count (lose_at line at (at + 1) w)
 unfolding cut
-cut_one line count at w e = ap (cut_from line count w) e
+cut_one line count at w e = ap (cut_by line count w) e
 
 pub cut_none : (line count : ℕ) (w : World) → oldest w.air ≡ None → cut line count w ≡ w
 unfolding cut
 cut_none line zero w e = refl
-cut_none line (suc count) w e = ap (cut_from line count w) e
+cut_none line (suc count) w e = ap (cut_by line count w) e
 
 all_case : (line at n : ℕ) (others : List ℕ) (w : World) (b : Bool)
     → deliver_all line at (cond b (n ∷ others) others) w ≡ deliver_all line at others (deliver_all line at (cond b (n ∷ []) []) w)

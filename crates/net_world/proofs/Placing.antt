@@ -1,6 +1,6 @@
 -- Nodes at their places.
-use Rattle.std.proofs.Common.{◌≡◌, ◌<◌, ◌≤◌, ◌+◌, ◌∙◌, ℕ, zero, suc, refl, sym, ap, subst, List, [], ◌∷◌, length, map, arith, cond, get_or, set}
-use Rattle.std.specs.Prelude.{Option, Some, None, not, min, ◌==◌, slice_get, slice_set}
+use Rattle.std.proofs.Common.{◌≡◌, ◌<◌, ◌≤◌, ◌∙◌, ℕ, zero, suc, refl, sym, ap, subst, List, [], ◌∷◌, length, map, arith, get_or, set}
+use Rattle.std.specs.Prelude.{Option, Some, None, min, slice_get, slice_set}
 use Rattle.std.specs.List.{position_or_len}
 use Rattle.std.proofs.lemmas.List.{length-map}
 use Rattle.std.proofs.lemmas.Option.{get_or_from_slice_get, slice_get-map, slice_get_past}
@@ -15,15 +15,13 @@ use Rattle.net_model.specs.Standing.{StandFor}
 use Rattle.net_model.specs.World.{World, place_of_node}
 use Rattle.net_model.proofs.Looks.{change_of}
 use Rattle.net_model.proofs.Numbers.{declared_of}
+use Rattle.net_model.proofs.Changing.{map_set}
+use Rattle.net_model.proofs.Containing.{place_named}
 
 -- ---- the place of a number
 
-place_in : (number : ℕ) (ps : List Placed) → position_or_len (has_number number) (map declared_of ps) ≡ place_of_node number ps
-place_in number [] = refl
-place_in number (p ∷ ps) = ap (λ k. cond (not (p.declared.node == number)) (1 + k) 0) (place_in number ps)
-
 pub place_is : (c : Course) (w : World) (number at : ℕ) → at ≡ position_or_len (has_number number) c.left.declared → Stands c w → at ≡ place_of_node number w.nodes
-place_is c w number at e t = e ∙ (ap (position_or_len (has_number number)) t.trace.declared ∙ place_in number w.nodes)
+place_is c w number at e t = e ∙ (ap (position_or_len (has_number number)) t.trace.declared ∙ sym (place_named number w.nodes))
 
 -- ---- the node at a place
 
@@ -50,26 +48,6 @@ same_length (n ∷ ns) (p ∷ ps) stand = ap suc (same_length ns ps stand.1)
 pub past_place : (ns : List Kept) (ps : List Placed) (at : ℕ) → length ns ≤ at → StandFor ns ps → slice_get ps at ≡ None
 past_place ns ps at h stand = let same = same_length ns ps stand in slice_get_past ps at (omega arith)
 
-pub set_same : {A : Type 0} (xs : List A) (at : ℕ) (x y : A) → slice_get xs at ≡ Some x → slice_get (slice_set xs at y) at ≡ Some y
-set_same [] at x y e = absurd (cc)
-set_same (z ∷ xs) zero x y e = refl
-set_same (z ∷ xs) (suc at) x y e = set_same xs at x y e
-
-pub set_twice : {A : Type 0} (xs : List A) (at : ℕ) (x y : A) → slice_set (slice_set xs at x) at y ≡ slice_set xs at y
-set_twice [] at x y = refl
-set_twice (z ∷ xs) zero x y = refl
-set_twice (z ∷ xs) (suc at) x y = ap (λ ys. z ∷ ys) (set_twice xs at x y)
-
-pub set_itself : {A : Type 0} (xs : List A) (at : ℕ) (x : A) → slice_get xs at ≡ Some x → slice_set xs at x ≡ xs
-set_itself [] at x e = refl
-set_itself (z ∷ xs) zero x e = ap (λ y. y ∷ xs) (let same : x ≡ z = cc in same)
-set_itself (z ∷ xs) (suc at) x e = ap (λ ys. z ∷ ys) (set_itself xs at x e)
-
-pub declared_stay : (ps : List Placed) (at : ℕ) (p q : Placed) → slice_get ps at ≡ Some p → q.declared ≡ p.declared → map declared_of (slice_set ps at q) ≡ map declared_of ps
-declared_stay [] at p q e same = refl
-declared_stay (r ∷ ps) zero p q e same = let here : p ≡ r = cc in ap (λ d. d ∷ map declared_of ps) (same ∙ ap declared_of here)
-declared_stay (r ∷ ps) (suc at) p q e same = ap (λ ds. r.declared ∷ ds) (declared_stay ps at p q e same)
-
 -- ---- a step of the node at a place
 
 abbrev pub with_nodes : Course → List Kept → Course
@@ -88,7 +66,7 @@ changed c w at before n step h t here goes =
       trace = record {
         told = t.trace.told;
         air = t.trace.air;
-        declared = t.trace.declared ∙ sym (declared_stay w.nodes at p q place.is_in refl);
+        declared = t.trace.declared ∙ sym (map_set declared_of w.nodes at p q place.is_in refl);
         nodes = place.replaced n q (goes p.state (subst (λ k. NodeStands k p.state) (sym here) place.stands));
         mails = t.trace.mails;
         ends = t.trace.ends;

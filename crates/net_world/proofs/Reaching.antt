@@ -1,6 +1,6 @@
 -- Something reaches the node at a place.
 use Rattle.std.proofs.Common.{◌≡◌, ◌<◌, ◌≤◌, ◌∙◌, ◌++◌, ℕ, sym, ap, subst, length, get_or, set}
-use Rattle.std.specs.Prelude.{None, min, slice_get, Result}
+use Rattle.std.specs.Prelude.{None, min, Result}
 use Rattle.node_core.specs.declared.acts.ActDone.{ActDone}
 use Rattle.node_core.specs.declared.acts.ActRefusal.{ActRefusal}
 use Rattle.node_core.specs.Acts.{UserAct}
@@ -14,6 +14,7 @@ use Rattle.net_model.specs.World.{Act, Bytes, Input, Time, World, after, answer,
 use Rattle.net_world.proofs.Entering.{reach_is}
 use Rattle.net_model.proofs.Looks.{answers, reaches}
 use Rattle.net_world.proofs.Placing.{at_place, changed, past_place, same_moment, with_nodes}
+use Rattle.net_model.proofs.LineWalks.{reach_none}
 
 -- ---- the code's time is the world's for a node
 
@@ -37,12 +38,8 @@ reached old new line at input before n h here goes told w t =
 
 -- ---- there is no such node
 
-not_reached : (line at : ℕ) (input : Input) (w : World) → slice_get w.nodes at ≡ None → reach line at input w ≡ w
-unfolding reach
-not_reached line at input w e = ap (λ o. reaches line at input o w) e
-
 pub stays : (c : Course) (line at : ℕ) (input : Input) → length c.left.nodes ≤ at → GoesOn c c (reach line at input)
-stays c line at input h w t = subst (λ v. Stands c v) (sym (not_reached line at input w (past_place c.left.nodes w.nodes at h t.trace.nodes))) t
+stays c line at input h w t = subst (λ v. Stands c v) (sym (reach_none line at input w (past_place c.left.nodes w.nodes at h t.trace.nodes))) t
 
 -- ---- what it answers
 

@@ -1,5 +1,5 @@
 -- Events told one after another.
-use Rattle.std.proofs.Common.{◌≡◌, ◌+◌, ◌++◌, ◌∙◌, ℕ, zero, suc, refl, sym, ap, List, [], ◌∷◌, length, map, arith, append_assoc, append-nil}
+use Rattle.std.proofs.Common.{◌≡◌, ◌+◌, ◌++◌, ◌∙◌, ℕ, refl, sym, ap, List, [], ◌∷◌, length, map, arith, append_assoc, append-nil}
 use Rattle.std.specs.Prelude.{Option, Some, None, slice_get, slice_set}
 use Rattle.std.specs.List.{flat_map, range_with_len}
 use Rattle.std.proofs.lemmas.List.{map-append}
@@ -17,6 +17,7 @@ use Rattle.net_world.specs.Running.{change, loss_at, losses_at}
 use Rattle.net_model.specs.Starting.{Placed, started}
 use Rattle.net_model.specs.World.{World, numbered, tell}
 use Rattle.net_model.proofs.Looks.{change_of, restart_of, shown_of}
+use Rattle.node_core.proofs.Paging.{range_more}
 
 pub tell_both : (line : ℕ) (es fs : List Event) (w : World) → tell line fs (tell line es w) ≡ tell line (es ++ fs) w
 tell_both line es fs w =
@@ -27,13 +28,6 @@ pub tell_none : (line : ℕ) (w : World) → tell line [] w ≡ w
 tell_none line w = ap (λ (ts : List NumberedEvent). record w { told = ts }) (append-nil w.told)
 
 -- ---- the ends that a restart takes away, by number
-
-range_more : (a n : ℕ) → range_with_len a (n + 1) ≡ range_with_len a n ++ (a + n) ∷ []
-range_more a zero = ap (λ k. k ∷ []) (omega arith)
-range_more a (suc n) =
-    let next : suc n + 1 ≡ suc (n + 1) = omega arith in
-    let sum : (a + 1) + n ≡ a + suc n = omega arith in
-    rw next (ap (λ ks. a ∷ ks) (range_more (a + 1) n ∙ ap (λ k. range_with_len (a + 1) n ++ k ∷ []) sum))
 
 losses_more : (node n : ℕ) (held : List Holder) → losses_of node (n + 1) held ≡ losses_of node n held ++ loss_of node (n + 1) (facts_at (end_of (n + 1) held))
 losses_more node n held =

@@ -4,7 +4,8 @@ use Rattle.network_file.specs.declared.plan.channels.Channel.{Channel}
 use Rattle.net_world.specs.Running.{Stands, course, put_by}
 use Rattle.net_model.specs.Starting.{Placed}
 use Rattle.net_model.specs.World.{put}
-use Rattle.net_world.proofs.Airing.{put_is, put_none}
+use Rattle.net_model.proofs.LineWalks.{put_none}
+use Rattle.net_world.proofs.Airing.{put_is}
 use Rattle.net_world.proofs.Placing.{declared_is, past_declared}
 use Rattle.net_world.proofs.Runs.{runs_as}
 use Rattle.net_world.proofs.world.World.put_in_air.Goals as goal
