@@ -1,4 +1,4 @@
-//! What is promised of every network.
+//! What is promised of every network. Called by `laws` of net_replay.
 ghost use Rattle.net_laws.specs.Promises.{NetworksAreSound, WorldsAreRuns, EachTellsRetries, InTimeIsSafe, InTimeMailIsOnce};
 ghost use Rattle.net_laws.specs.Conversations.{InTimeUsersAgree};
 ghost use Rattle.net_laws.specs.Datagrams.{DatagramsSent};

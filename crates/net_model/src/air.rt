@@ -1,4 +1,4 @@
-//! The frames that were put in the air.
+//! The frames that were put in the air. Called by net_world.
 ghost use Rattle.std.specs.Prelude.{◌≡◌, ◌≤◌, ◌-◌, Some, length, take, not};
 ghost use Rattle.std.specs.List.{position_or_len};
 ghost use Rattle.net_model.specs.declared.air.Aired.{Aired};

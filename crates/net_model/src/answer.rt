@@ -1,4 +1,4 @@
-//! What comes of an act at a node, as far as it is told.
+//! What comes of an act at a node, as far as it is told. Called by net_world.
 ghost use Rattle.std.specs.Prelude.{IfOk, Ok};
 ghost use Rattle.node_core.specs.Standing.{IsAnswer};
 ghost use Rattle.net_model.specs.Answers as answers_to;

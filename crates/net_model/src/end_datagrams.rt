@@ -1,4 +1,4 @@
-//! What events tell of ends and of their datagrams.
+//! What events tell of ends and of their datagrams. Used by `ends` and `events`, and by the crates above.
 use circuit_l4::EndFacts;
 
 /// An end that a restart took away: its number at the node, and what it had come to.

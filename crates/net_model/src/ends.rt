@@ -1,4 +1,4 @@
-//! The ends that nodes ever made, as a replay keeps them.
+//! The ends that nodes ever made, as a replay keeps them. Called by net_world.
 ghost use Rattle.std.specs.Prelude.{◌≡◌, ◌<◌, ◌-◌, ℕ, [], IfOk, OnOk, length};
 ghost use Rattle.node_core.specs.Standing.{entry_of};
 ghost use Rattle.net_model.specs.Ends as ends;

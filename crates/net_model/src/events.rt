@@ -1,4 +1,5 @@
-//! What there is to tell of a replay.
+//! What there is to tell of a replay. `ends` notes these events, net_world makes them, and the crates of reports, verdicts and traces read
+//! them.
 ghost use Rattle.std.specs.Prelude.{◌≡◌, IfOk, IfSome};
 ghost use Rattle.node_core.specs.Standing.{entry_of};
 ghost use Rattle.net_model.specs.Events.{Entry, event_of};

@@ -1,4 +1,4 @@
-//! The mail of the nodes of a network: a store at the place of each node that keeps mail.
+//! The mail of the nodes of a network: a store at the place of each node that keeps mail. Called by net_world.
 ghost use Rattle.std.specs.Prelude.{◌≡◌, ℕ, List, [], Option, OnOk, OnErr, IfOk, is_some, length, map, slice_get};
 ghost use Rattle.std.specs.Option.{option_copied, option_map};
 ghost use Rattle.node_mail.specs.Lists.{Lists, letter_of, number_and_dest, octets_or};

@@ -1,4 +1,4 @@
-//! What has become of an end.
+//! What has become of an end. `ends` keeps it, and the crates of reports and traces read it.
 use circuit_l4::EndFacts;
 
 /// What has become of an end.

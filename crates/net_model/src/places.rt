@@ -1,4 +1,4 @@
-//! The places of nodes by their numbers, and a line at one.
+//! The places of nodes by their numbers, and a line at one. Called by net_world and net_verdict.
 ghost use Rattle.std.specs.Prelude.{◌≡◌};
 ghost use Rattle.std.specs.List.{position_or_len};
 ghost use Rattle.net_model.specs.Starting.{has_number};

@@ -1,4 +1,4 @@
-//! What became of a post.
+//! What became of a post. `mails` answers so, and net_world tells it.
 use node_mail::PostRefusal;
 
 /// What became of a post.

@@ -1,4 +1,4 @@
-//! Why an instruction isn't done, and why a replay is refused.
+//! Why an instruction isn't done, and why a replay is refused. Used by `air`, `answer`, `events` and `refused`, and by the crates above.
 use radio_base::NoMemory;
 use std::alloc::{AllocError, AllocFailed};
 use std::fmt;

@@ -1,4 +1,5 @@
-//! Why a node didn't do what a line asks for, as the line's refusal. Want of memory is none: the replay ends there.
+//! Why a node didn't do what a line asks for, as the line's refusal. Want of memory is none: the replay ends there. Called by `answer` and
+//! net_world.
 ghost use Rattle.std.specs.Prelude.{◌≡◌};
 ghost use Rattle.net_model.specs.Refused as refused;
 

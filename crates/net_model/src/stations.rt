@@ -1,4 +1,4 @@
-//! The nodes of a replay as they start, by number, and their tables as they are shown.
+//! The nodes of a replay as they start, by number, and their tables as they are shown. Called by net_world.
 ghost use Rattle.std.specs.Prelude.{◌≡◌, ◌≤◌, ◌++◌, filter, map, IfOk, OnOk};
 ghost use Rattle.ax_address.specs.Callsign.{IsCallsign};
 ghost use Rattle.circuit_table.specs.Pairs.{IsPair};

@@ -1,4 +1,4 @@
-//! A node's table as it was when it was shown.
+//! A node's table as it was when it was shown. `stations` makes it; `events` keeps it, and the crates of reports and traces read it.
 ghost use Rattle.std.specs.Prelude.{◌≡◌};
 
 use ax_address::{Alias, Call};

@@ -1,4 +1,4 @@
-//! What a report says of the entries of nodes, and of their ends as they were left.
+//! What a report says of the entries of nodes, and of their ends as they were left. Called by `reports`.
 ghost use Rattle.std.specs.Prelude.{◌≡◌, ◌++◌, OnOk, IfOk, string_bytes};
 ghost use Rattle.net_report.specs.ToldLines as texts;
 ghost use Rattle.circuit_table.specs.Standing.{event_told};

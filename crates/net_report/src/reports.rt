@@ -1,4 +1,4 @@
-//! The report.
+//! The report. Called by node_cmd, through net_replay, and `write_verdict` by `soak`.
 ghost use Rattle.std.specs.Prelude.{◌≡◌, ◌++◌, List, Option, flat_map, codes, string_bytes, OnOk, OnErr, IfOk, Some};
 ghost use Rattle.std.specs.Fmt.{decimal};
 ghost use Rattle.radio_base.specs.Modulus.{modulus_size};

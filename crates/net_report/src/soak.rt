@@ -1,4 +1,4 @@
-//! The line on what came of a soak.
+//! The line on what came of a soak. Called by node_cmd, through net_replay.
 ghost use Rattle.std.specs.Prelude.{◌≡◌, ◌++◌, ℕ, List, length, map, flat_map, string_bytes, OnOk, OnErr, IfOk};
 ghost use Rattle.node_core.specs.Standing.{NodeStands, entry_of};
 ghost use Rattle.node_model.specs.States.{NodeState};

@@ -1,4 +1,4 @@
-//! The lines of a report on links, circuits, datagrams, mail and tables, and the words in them.
+//! The lines of a report on links, circuits, datagrams, mail and tables, and the words in them. Called by `entries` and `reports`.
 pub mod events;
 pub mod lines;
 pub mod mails;

@@ -1,4 +1,4 @@
-//! By what it shows that something in a trace came too late.
+//! By what it shows that something in a trace came too late. Called by look_cmd.
 ghost use Rattle.std.specs.Prelude.{◌≡◌, ◌∷◌, [], ℕ, List, IfOk, Option, map, slice_get};
 ghost use Rattle.network_file.specs.Plan.{Plan};
 ghost use Rattle.circuit_verdict.specs.declared.allowance.Allowance.{Allowance};

@@ -1,4 +1,4 @@
-//! The verdict on a trace.
+//! The verdict on a trace. Called by look_cmd, by node_cmd through net_replay, and `circuit_event` by `causes`.
 ghost use Rattle.std.specs.Prelude.{◌≡◌, List, map, ℕ, OnOk, IfOk};
 ghost use Rattle.std.specs.Option.{option_copied, option_map};
 ghost use Rattle.circuit_table.specs.Sets as sets;

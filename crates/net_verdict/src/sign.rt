@@ -1,4 +1,4 @@
-//! By what it shows that an event came too late.
+//! By what it shows that an event came too late. `causes` names it, and trace_lines tells it.
 
 /// By what it shows that an event came too late. Events are numbered from 1, in the order of the trace.
 #[derive(Clone, Copy, Debug, PartialEq, Eq)]

@@ -1,4 +1,4 @@
-//! The lines at one node: what its user does, and its table; and time, which goes on at all of them.
+//! The lines at one node: what its user does, and its table; and time, which goes on at all of them. Called by `doing`.
 ghost use Rattle.std.specs.Prelude.{◌≡◌, [], ℕ, false, OnOk, IfOk, length, slice_get};
 ghost use Rattle.std.specs.Option.{option_map};
 ghost use Rattle.radio_base.specs.declared.modulus.LinkModulus.TheVariants.{Modulo8};

@@ -1,4 +1,4 @@
-//! Bursts: many messages that are written at an end.
+//! Bursts: many messages that are written at an end. Called by `doing`.
 ghost use Rattle.std.specs.Prelude.{◌≡◌, ◌≤◌, ◌+◌, ◌∷◌, [], ℕ, OnOk, IfOk, IfErr, suc};
 ghost use Rattle.std.specs.Fmt.{decimal};
 ghost use Rattle.node_core.specs.Acts as acts;

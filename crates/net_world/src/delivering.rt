@@ -1,4 +1,4 @@
-//! The lines on frames: they go to nodes, are lost, or go where they go by themselves.
+//! The lines on frames: they go to nodes, are lost, or go where they go by themselves. Called by `doing`.
 ghost use Rattle.std.specs.Prelude.{◌≡◌, ◌∷◌, [], ℕ, Bool, Some, OnOk, filter, slice_get};
 ghost use Rattle.network_file.specs.Plan.{hearers};
 ghost use Rattle.net_model.specs.declared.air.Aired.{Aired};

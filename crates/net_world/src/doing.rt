@@ -1,4 +1,4 @@
-//! What each line does: something reaches a node, events are told, a node's frames are put in the air.
+//! What each line does: something reaches a node, events are told, a node's frames are put in the air. Called by `replaying`.
 ghost use Rattle.std.specs.Prelude.{◌≡◌, ◌∷◌, [], OnOk};
 ghost use Rattle.std.specs.List.{AllByRecursion};
 ghost use Rattle.circuit_table.specs.Pairs.{IsPair};

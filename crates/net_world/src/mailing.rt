@@ -1,4 +1,4 @@
-//! The lines of mail: posts, and turns of the agent of a node.
+//! The lines of mail: posts, and turns of the agent of a node. Called by `doing`.
 mod held;
 mod offering;
 mod taking;

@@ -1,4 +1,5 @@
-//! The three moves of which every line is made: something reaches a node, events are told, a node's frames are put in the air.
+//! The three moves of which every line is made: something reaches a node, events are told, a node's frames are put in the air. Called by
+//! the files of lines: `acting`, `bursting`, `delivering`, `mailing` and `restarting`.
 ghost use Rattle.std.specs.Prelude.{◌≡◌, ◌∷◌, [], ℕ, List, true, false, is_some, IfOk, IfSome, OnOk, length, slice_get, ◌<◌};
 ghost use Rattle.std.specs.List.{position_or_len};
 ghost use Rattle.std.specs.Option.{option_map};

@@ -1,4 +1,4 @@
-//! Replays.
+//! Replays. Called by look_cmd, and by node_cmd through net_replay.
 ghost use Rattle.std.specs.Prelude.{◌≡◌, ◌≤◌, IfOk, IfErr, length};
 ghost use Rattle.net_model.specs.World.{most_frames};
 ghost use Rattle.net_model.specs.SoundPlans.{IsSound};

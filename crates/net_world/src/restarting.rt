@@ -1,4 +1,4 @@
-//! Restarts of nodes.
+//! Restarts of nodes. Called by `doing`.
 ghost use Rattle.std.specs.Prelude.{◌≡◌, ◌≤◌, ◌<◌, ℕ, OnOk, length, slice_get, slice_index_or};
 ghost use Rattle.circuit_table.specs.Pairs.{IsPair};
 ghost use Rattle.net_model.specs.Lines as lines;

@@ -1,4 +1,4 @@
-//! What a replay leaves.
+//! What a replay leaves. `replaying` makes it, and the crates of reports, verdicts and traces read it.
 
 use crate::world::World;
 use circuit_verdict::Allowance;

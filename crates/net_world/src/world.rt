@@ -1,4 +1,4 @@
-//! A replay while it runs, and its start.
+//! A replay while it runs, and its start. Called by `replaying`; each file of lines and moves adds methods to it.
 ghost use Rattle.std.specs.Prelude.{◌≡◌, IfOk};
 ghost use Rattle.circuit_table.specs.Runs.{AreStarts};
 ghost use Rattle.net_model.specs.SoundPlans.{first_sets};

@@ -1,4 +1,4 @@
-//! The lines of a report on links, circuits and datagrams.
+//! The lines of a report on links, circuits and datagrams. Called by `entries`, `events` and `reports`.
 ghost use Rattle.std.specs.Prelude.{◌≡◌, ◌++◌, OnOk, IfOk, string_bytes};
 ghost use Rattle.net_report.specs.ToldLines as lines;
 

@@ -1,4 +1,4 @@
-//! What a report says of mail.
+//! What a report says of mail. Called by `events` and `reports`.
 ghost use Rattle.std.specs.Prelude.{◌≡◌, IfOk, string_bytes};
 ghost use Rattle.net_report.specs.ToldLines as mails;
 

@@ -1,4 +1,4 @@
-//! The lines of a table.
+//! The lines of a table. Called by `reports`.
 ghost use Rattle.std.specs.Prelude.{◌≡◌, ◌++◌, ◌+◌, ◌≤◌, flat_map, length, codes, string_bytes, [], OnOk, IfOk};
 ghost use Rattle.std.specs.Fmt.{decimal};
 ghost use Rattle.ax_address.specs.Alias as aliases;

@@ -1,4 +1,4 @@
-//! The words by which a report shows what links, ends of circuits and routers tell.
+//! The words by which a report shows what links, ends of circuits and routers tell. Called by `entries` and `lines`.
 ghost use Rattle.std.specs.Prelude.{◌≡◌, None, Some, MatchOption};
 ghost use Rattle.net_report.specs.ToldLines as words;
 

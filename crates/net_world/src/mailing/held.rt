@@ -1,4 +1,4 @@
-//! What an agent asks of the ends that its node holds.
+//! What an agent asks of the ends that its node holds. Called by `mailing`, `taking` and `offering`.
 ghost use Rattle.std.specs.Prelude.{◌≡◌, ℕ, IfOk, slice_get};
 ghost use Rattle.std.specs.Option.{option_copied};
 ghost use Rattle.circuit_l4.specs.State as ends;

@@ -1,4 +1,4 @@
-//! The mails that are queued are offered at the ends of an agent.
+//! The mails that are queued are offered at the ends of an agent. Called by `mailing`.
 ghost use Rattle.std.specs.Prelude.{◌≡◌, ◌&&◌, ◌+◌, ◌∷◌, ℕ, List, IfOk, IfErr, nat_lt};
 ghost use Rattle.ax_address.specs.Callsign.{same_call};
 ghost use Rattle.net_world.specs.Agents as agents;

@@ -1,4 +1,4 @@
-//! What waits at the ends of an agent is taken, heard and answered.
+//! What waits at the ends of an agent is taken, heard and answered. Called by `mailing`.
 ghost use Rattle.std.specs.Prelude.{◌≡◌, ◌-◌, ◌++◌, ℕ, suc, List, Option, OnOk, IfOk, IfErr, map, Some, Err};
 ghost use Rattle.circuit_table.specs.CircuitSets.{held_ids};
 ghost use Rattle.node_mail.specs.Lists.{octets_in};
