@@ -2,7 +2,7 @@
 use Rattle.std.specs.Prelude.{ℕ, ◌-◌, ◌+◌, ◌==◌, ◌&&◌, not, min, is_some, if◌then◌else◌, List, [], ◌∷◌, length, slice_get, Option, None, Some, zero, suc, ◌/◌, Bool, nat_lt, take, drop, Result, Ok, Err}
 use Rattle.radio_base.specs.declared.payload.Payload.{Payload}
 use Rattle.ax_address.specs.Callsign.{Callsign}
-use Rattle.ax_link.specs.Kinds.{payload}
+pub use Rattle.ax_link.specs.Kinds.{payload}
 use Rattle.ax_link.specs.State.{State, count_end}
 use Rattle.ax_link.specs.Table.{may_close, Send}
 use Rattle.ax_segment.specs.Joining.{Answer, HeldMessage, Whole, join_step}
