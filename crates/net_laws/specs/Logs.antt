@@ -4,6 +4,7 @@ use Rattle.network_file.specs.declared.plan.instructions.NumberedInstruction.{Nu
 use Rattle.network_file.specs.Plan.{Plan}
 use Rattle.node_core.specs.Standing.{Kept, circuits_of}
 use Rattle.route_table.specs.Held.{StandsFor}
+use Rattle.net_model.specs.declared.members.Member.{Member}
 use Rattle.net_model.specs.Lines.{do_lines, world}
 use Rattle.net_model.specs.Starting.{Placed}
 use Rattle.net_model.specs.Standing.{IsTraceOf, Left}
@@ -15,14 +16,15 @@ pub record TableIsOf (k : Kept) (p : Placed) : Type 0 where
   pub log : StandsFor (circuits_of k).router.table p.state.station.log
 
 -- so it is of each node that is left
-abbrev pub TablesAreOf : List Kept → List Placed → Type 0
-TablesAreOf nodes placed = (at : ℕ) (k : Kept) → slice_get nodes at ≡ Some k → (p : Placed) × (slice_get placed at ≡ Some p) × TableIsOf k p
+abbrev pub TablesAreOf : List Member → List Placed → Type 0
+TablesAreOf members placed =
+    (at : ℕ) (m : Member) → slice_get members at ≡ Some m → (p : Placed) × (slice_get placed at ≡ Some p) × TableIsOf m.node p
 
 -- The first lines of a file, by themselves, come to what the file comes to behind them; and what is left of a replay of them has the
 -- tables of the logs.
 pub record TablesAt (plan : Plan) (done : List NumberedInstruction) : Type 0 where
   pub front : world (record plan { instructions = done }) ≡ do_lines plan done (start plan)
-  pub tables : (left : Left) → IsTraceOf left (do_lines plan done (start plan)) → TablesAreOf left.nodes (do_lines plan done (start plan)).nodes
+  pub tables : (left : Left) → IsTraceOf left (do_lines plan done (start plan)) → TablesAreOf left.members (do_lines plan done (start plan)).nodes
 
 -- so it is at each line
 abbrev pub TablesOfLogs : Type 0

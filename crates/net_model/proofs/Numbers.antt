@@ -1,5 +1,5 @@
 -- Nodes by their numbers, as they start.
-use Rattle.std.proofs.Common.{◌≡◌, ◌<◌, ◌≤◌, ◌+◌, ◌-◌, ◌++◌, ◌∙◌, ℕ, suc, refl, sym, ap, subst, List, [], ◌∷◌, map, filter, arith, add-one}
+use Rattle.std.proofs.Common.{◌≡◌, ◌<◌, ◌≤◌, ◌+◌, ◌-◌, ◌++◌, ◌∙◌, ℕ, suc, refl, sym, subst, List, [], ◌∷◌, filter, arith, add-one}
 use Rattle.std.specs.Prelude.{Result, Ok, Err}
 use Rattle.ax_address.specs.Callsign.{IsCallsign}
 use Rattle.circuit_l4.specs.declared.pair.Pair.{Pair}
@@ -11,16 +11,11 @@ use Rattle.link_table.specs.Calls.{path_answer}
 use Rattle.link_table.specs.declared.path_refusal.PathRefusal.{PathRefusal}
 use Rattle.network_file.specs.declared.plan.declarations.Declaration.{Declaration}
 use Rattle.network_file.specs.Plan.{Plan}
-use Rattle.node_core.specs.Standing.{Kept, NodeStands}
 use Rattle.network_file.specs.declared.plan.vias.Via.{Via}
 use Rattle.node_model.specs.States.{NodeState}
 use Rattle.net_model.specs.SoundPlans.{set_of, sets_of}
-use Rattle.net_model.specs.Starting.{Placed, by_number, has_number, new_placed, started}
+use Rattle.net_model.specs.Starting.{Placed, by_number, has_number, started}
 use Rattle.node_settings.specs.Settings.{is_via_of, config_of, path_of, with_via_by, with_vias}
-use Rattle.net_model.specs.Standing.{StandFor}
-
-abbrev pub declared_of : Placed → Declaration
-declared_of p = p.declared
 
 -- ---- declarations by number
 
@@ -33,16 +28,6 @@ unfolding by_number
 from_last ds n h = let none : 17 - n ≡ 0 = omega arith in rw none refl
 
 -- ---- nodes that start
-
-pub behind : (ns : List Kept) (ps : List Placed) (n : Kept) (p : Placed) → StandFor ns ps → NodeStands n p.state → StandFor (ns ++ n ∷ []) (ps ++ p ∷ [])
-behind [] [] n p all one = (one, tt)
-behind [] (q ∷ ps) n p all one = absurd all
-behind (m ∷ ns) [] n p all one = absurd all
-behind (m ∷ ns) (q ∷ ps) n p all one = (all.0, behind ns ps n p all.1 one)
-
-pub all_declared : (plan : Plan) (ds : List Declaration) → map declared_of (map (new_placed plan) ds) ≡ ds
-all_declared plan [] = refl
-all_declared plan (d ∷ ds) = ap (λ es. d ∷ es) (all_declared plan ds)
 
 -- ---- their circuits as they start
 

@@ -1,30 +1,70 @@
--- Stores at their places.
-use Rattle.std.proofs.Common.{◌≡◌, ◌∙◌, ℕ, zero, suc, ◌<◌, ◌≤◌, List, [], ◌∷◌, ◌++◌, length, take, map, ◌+◌, Option, Some, None, refl, ap, subst, arith, get_or}
+-- Nodes of a replay at their places, and their stores.
+use Rattle.std.proofs.Common.{◌≡◌, ◌∙◌, ◌+◌, ℕ, zero, suc, ◌<◌, ◌≤◌, List, [], ◌∷◌, ◌++◌, length, Option, Some, None, refl, sym, ap, subst, arith, cond, get_or, map}
 use Rattle.std.specs.Borrow.{Bor}
-use Rattle.std.specs.Option.{option_copied}
-use Rattle.std.specs.Prelude.{is_some, slice_set}
-use Rattle.std.proofs.lemmas.List.{map-append, take_more}
-use Rattle.network_file.specs.declared.plan.declarations.Declaration.{Declaration}
-use Rattle.network_file.specs.Keys.{Assignment}
+use Rattle.std.specs.List.{position_or_len}
+use Rattle.std.specs.Option.{option_copied, option_map}
+use Rattle.std.proofs.lemmas.Option.{slice_get-map}
+use Rattle.std.specs.Prelude.{◌==◌, is_some, not, slice_get, slice_set}
 use Rattle.node_mail.specs.Lists.{Lists, StandsFor, StoreView}
-use Rattle.net_model.specs.Starting.{new_mail}
+use Rattle.net_model.specs.declared.members.Member.{Member}
 use Rattle.net_model.specs.Stores.{change_mail}
 use Rattle.net_model.specs.Mailing.{mail_in}
-use Rattle.net_model.specs.Standing.{MailStands, MailsStand}
+use Rattle.network_file.specs.declared.plan.declarations.Declaration.{Declaration}
+use Rattle.net_model.specs.Starting.{Placed, has_number}
+use Rattle.net_model.specs.World.{place_of_node}
+use Rattle.net_model.specs.Standing.{AreDeclared, MailStands, MemberStands, MembersStand, is_member}
+use Rattle.net_model.proofs.Containing.{place_named}
 
-pub past : (vs : List (Option StoreView)) (ls : List (Option Lists)) (at : ℕ) → MailsStand vs ls → length vs ≤ at → mail_in at ls ≡ None
-past [] [] at h k = refl
-past [] (s ∷ ls) at h k = absurd h
-past (v ∷ vs) [] at h k = absurd h
-past (v ∷ vs) (s ∷ ls) zero h k = absurd (omega (arith, k))
-past (v ∷ vs) (s ∷ ls) (suc at) h k = past vs ls at h.1 (omega (arith, k))
+-- ---- nodes at their places
 
--- what stands at a place
-pub stands_at : (vs : List (Option StoreView)) (ls : List (Option Lists)) (at : ℕ) (d : Option StoreView) → MailsStand vs ls → at < length vs → MailStands (get_or vs at d) (mail_in at ls)
-stands_at [] ls at d h k = absurd (omega (arith, k))
-stands_at (x ∷ vs) [] at d h k = absurd h
-stands_at (x ∷ vs) (s ∷ ls) zero d h k = h.0
-stands_at (x ∷ vs) (s ∷ ls) (suc at) d h k = stands_at vs ls at d h.1 (omega (arith, k))
+pub one_behind : (ms : List Member) (ps : List Placed) (ls : List (Option Lists)) (m : Member) (p : Placed) (s : Option Lists) → MembersStand ms ps ls → MemberStands m p s
+    → MembersStand (ms ++ m ∷ []) (ps ++ p ∷ []) (ls ++ s ∷ [])
+one_behind [] [] [] m p s h st = (st, tt)
+one_behind [] [] (l ∷ ls) m p s h st = absurd h
+one_behind [] (q ∷ ps) ls m p s h st = absurd h
+one_behind (n ∷ ms) [] ls m p s h st = absurd h
+one_behind (n ∷ ms) (q ∷ ps) [] m p s h st = absurd h
+one_behind (n ∷ ms) (q ∷ ps) (l ∷ ls) m p s h st = (h.0, one_behind ms ps ls m p s h.1 st)
+
+pub past : (ms : List Member) (ps : List Placed) (ls : List (Option Lists)) (at : ℕ) → MembersStand ms ps ls → length ms ≤ at → mail_in at ls ≡ None
+past [] [] [] at h k = refl
+past [] [] (s ∷ ls) at h k = absurd h
+past [] (p ∷ ps) ls at h k = absurd h
+past (m ∷ ms) [] ls at h k = absurd h
+past (m ∷ ms) (p ∷ ps) [] at h k = absurd h
+past (m ∷ ms) (p ∷ ps) (s ∷ ls) zero h k = absurd (omega (arith, k))
+past (m ∷ ms) (p ∷ ps) (s ∷ ls) (suc at) h k = past ms ps ls at h.1 (omega (arith, k))
+
+-- the mail of the node at a place
+pub stands_at : (ms : List Member) (ps : List Placed) (ls : List (Option Lists)) (at : ℕ) (d : Member) → MembersStand ms ps ls → at < length ms
+    → MailStands (get_or ms at d).mail (mail_in at ls)
+stands_at [] ps ls at d h k = absurd (omega (arith, k))
+stands_at (m ∷ ms) [] ls at d h k = absurd h
+stands_at (m ∷ ms) (p ∷ ps) [] at d h k = absurd h
+stands_at (m ∷ ms) (p ∷ ps) (s ∷ ls) zero d h k = h.0.mail
+stands_at (m ∷ ms) (p ∷ ps) (s ∷ ls) (suc at) d h k = stands_at ms ps ls at d h.1 (omega (arith, k))
+
+-- ---- how nodes are declared
+
+pub all_declared : (ms : List Member) (ps : List Placed) (ls : List (Option Lists)) → MembersStand ms ps ls → AreDeclared ms ps
+all_declared [] [] ls h = refl
+all_declared [] (p ∷ ps) ls h = absurd h
+all_declared (m ∷ ms) [] ls h = absurd h
+all_declared (m ∷ ms) (p ∷ ps) [] h = absurd h
+all_declared (m ∷ ms) (p ∷ ps) (l ∷ ls) h = ap (λ d. d ∷ map (λ (x : Member). x.declared) ms) h.0.declared ∙ ap (λ ds. p.declared ∷ ds) (all_declared ms ps ls h.1)
+
+named : (number : ℕ) (ms : List Member) → position_or_len (is_member number) ms ≡ position_or_len (has_number number) (map (λ (m : Member). m.declared) ms)
+named number [] = refl
+named number (m ∷ ms) = ap (λ k. cond (not (m.declared.node == number)) (1 + k) 0) (named number ms)
+
+pub declared_place : (number : ℕ) (ms : List Member) (ps : List Placed) → AreDeclared ms ps → position_or_len (is_member number) ms ≡ place_of_node number ps
+declared_place number ms ps e = named number ms ∙ (ap (position_or_len (has_number number)) e ∙ sym (place_named number ps))
+
+pub declared_at : (ms : List Member) (ps : List Placed) (k : ℕ) → AreDeclared ms ps → option_map (λ (m : Member). m.declared) (slice_get ms k) ≡ option_map (λ (p : Placed). p.declared) (slice_get ps k)
+declared_at ms ps k e =
+    sym (slice_get-map (λ (m : Member). m.declared) ms k) ∙ (ap (λ (ds : List Declaration). slice_get ds k) e ∙ slice_get-map (λ (p : Placed). p.declared) ps k)
+
+-- ---- stores
 
 -- where a store is there
 pub record Here (v : StoreView) (o : Option Lists) : Type 0 where
@@ -50,38 +90,30 @@ both_keep None (Some s) h = absurd h
 both_keep (Some v) None h = absurd h
 both_keep (Some v) (Some s) h = refl
 
-pub here : (vs : List (Option StoreView)) (ls : List (Option Lists)) (at : ℕ) (v : StoreView) (d : Option StoreView) → MailsStand vs ls → at < length vs → get_or vs at d ≡ Some v
-    → Here v (mail_in at ls)
-here vs ls at v d h k e = some_here v (mail_in at ls) (subst (λ (y : Option StoreView). MailStands y (mail_in at ls)) e (stands_at vs ls at d h k))
+module _ (ms : List Member) (ps : List Placed) (ls : List (Option Lists)) (at : ℕ) (d : Member) (h : MembersStand ms ps ls) (k : at < length ms) where
+  pub here : (v : StoreView) → (get_or ms at d).mail ≡ Some v → Here v (mail_in at ls)
+  here v e = some_here v (mail_in at ls) (subst (λ (y : Option StoreView). MailStands y (mail_in at ls)) e (stands_at ms ps ls at d h k))
 
-pub none_here : (vs : List (Option StoreView)) (ls : List (Option Lists)) (at : ℕ) (d : Option StoreView) → MailsStand vs ls → at < length vs → get_or vs at d ≡ None → mail_in at ls ≡ None
-none_here vs ls at d h k e = none_there (mail_in at ls) (subst (λ (y : Option StoreView). MailStands y (mail_in at ls)) e (stands_at vs ls at d h k))
+  pub none_here : (get_or ms at d).mail ≡ None → mail_in at ls ≡ None
+  none_here e = none_there (mail_in at ls) (subst (λ (y : Option StoreView). MailStands y (mail_in at ls)) e (stands_at ms ps ls at d h k))
 
-set_stands : (vs : List (Option StoreView)) (ls : List (Option Lists)) (at : ℕ) (v : StoreView) (s : Lists) → MailsStand vs ls → at < length vs → StandsFor v s → MailsStand (slice_set vs at (Some v)) (slice_set ls at (Some s))
-set_stands [] [] at v s h k st = absurd (omega (arith, k))
-set_stands [] (x ∷ ls) at v s h k st = absurd h
-set_stands (x ∷ vs) [] at v s h k st = absurd h
-set_stands (x ∷ vs) (y ∷ ls) zero v s h k st = (st, h.1)
-set_stands (x ∷ vs) (y ∷ ls) (suc at) v s h k st = (h.0, set_stands vs ls at v s h.1 (omega (arith, k)) st)
+set_stands : (ms : List Member) (ps : List Placed) (ls : List (Option Lists)) (at : ℕ) (d : Member) (v : StoreView) (s : Lists) → MembersStand ms ps ls → at < length ms → StandsFor v s
+    → MembersStand (slice_set ms at (record (get_or ms at d) { mail = Some v })) ps (slice_set ls at (Some s))
+set_stands [] ps ls at d v s h k st = absurd (omega (arith, k))
+set_stands (m ∷ ms) [] ls at d v s h k st = absurd h
+set_stands (m ∷ ms) (p ∷ ps) [] at d v s h k st = absurd h
+set_stands (m ∷ ms) (p ∷ ps) (l ∷ ls) zero d v s h k st = (record { declared = h.0.declared; node = h.0.node; mail = st }, h.1)
+set_stands (m ∷ ms) (p ∷ ps) (l ∷ ls) (suc at) d v s h k st = (h.0, set_stands ms ps ls at d v s h.1 (omega (arith, k)) st)
 
 -- a call of the store at a place
-pub called : (vs : List (Option StoreView)) (ls : List (Option Lists)) (at : ℕ) (v new : StoreView) (d : Option StoreView) (f : Lists → Lists) → MailsStand vs ls → at < length vs → get_or vs at d ≡ Some v
-    → ((s : Lists) → StandsFor v s → StandsFor new (f s)) → MailsStand (slice_set vs at (Some new)) (change_mail at f (mail_in at ls) ls)
-called vs ls at v new d f h k e does =
-    let r = here vs ls at v d h k e in
-    rw (r.there) (set_stands vs ls at new (f r.lists) h k (does r.lists r.stands))
+pub called : (ms : List Member) (ps : List Placed) (ls : List (Option Lists)) (at : ℕ) (v new : StoreView) (d : Member) (f : Lists → Lists) → MembersStand ms ps ls → at < length ms
+    → (get_or ms at d).mail ≡ Some v → ((s : Lists) → StandsFor v s → StandsFor new (f s))
+    → MembersStand (slice_set ms at (record (get_or ms at d) { mail = Some new })) ps (change_mail at f (mail_in at ls) ls)
+called ms ps ls at v new d f h k e does =
+    let r = here ms ps ls at d h k v e in
+    rw (r.there) (set_stands ms ps ls at d new (f r.lists) h k (does r.lists r.stands))
 
-pub same_set : (vs : List (Option StoreView)) (at : ℕ) (d : Option StoreView) → at < length vs → slice_set vs at (get_or vs at d) ≡ vs
+pub same_set : (ms : List Member) (at : ℕ) (d : Member) → at < length ms → slice_set ms at (get_or ms at d) ≡ ms
 same_set [] at d k = absurd (omega (arith, k))
-same_set (x ∷ vs) zero d k = refl
-same_set (x ∷ vs) (suc at) d k = ap (λ ys. x ∷ ys) (same_set vs at d (omega (arith, k)))
-
-pub push_stands : (vs : List (Option StoreView)) (ls : List (Option Lists)) (v : Option StoreView) (s : Option Lists) → MailsStand vs ls → MailStands v s → MailsStand (vs ++ v ∷ []) (ls ++ s ∷ [])
-push_stands [] [] v s h st = (st, tt)
-push_stands [] (x ∷ ls) v s h st = absurd h
-push_stands (x ∷ vs) [] v s h st = absurd h
-push_stands (x ∷ vs) (y ∷ ls) v s h st = (h.0, push_stands vs ls v s h.1 st)
-
-pub new_more : (settings : List Assignment) (ds : List Declaration) (i : ℕ) (d : Declaration) → i < length ds
-    → map (new_mail settings) (take (i + 1) ds) ≡ map (new_mail settings) (take i ds) ++ new_mail settings (get_or ds i d) ∷ []
-new_more settings ds i d k = ap (map (new_mail settings)) (take_more ds i d k) ∙ map-append (new_mail settings) (take i ds) (get_or ds i d ∷ [])
+same_set (x ∷ ms) zero d k = refl
+same_set (x ∷ ms) (suc at) d k = ap (λ ys. x ∷ ys) (same_set ms at d (omega (arith, k)))

@@ -12,6 +12,7 @@ mod ends;
 mod events;
 mod limits;
 mod mails;
+mod members;
 mod outcome;
 mod places;
 mod posting;
@@ -27,12 +28,13 @@ pub use end_datagrams::{EndDatagram, LostEnd, SentDatagram};
 pub use ends::{EndRecord, Ends};
 pub use events::{Event, NumberedEvent, datagram_event, entry_event};
 pub use mails::{
-    Offer, StoredMail, hear_at, keeps_mail, new_mails, post_at, queued_at, queued_count, wire_at,
+    Offer, StoredMail, hear_at, keeps_mail, post_at, queued_at, queued_count, wire_at,
 };
+pub use members::Member;
 pub use outcome::Outcome;
 pub use places::{LineAt, place_of};
 pub use posting::Posting;
 pub use refusals::{LineRefusal, ReplayRefusal};
 pub use refused::of_post;
-pub use stations::{declared_by_number, is_callsign, nodes_of, shown, started};
+pub use stations::{declared_by_number, is_callsign, members_of, shown, started};
 pub use table::Table;

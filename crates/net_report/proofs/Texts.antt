@@ -1,5 +1,5 @@
 -- Texts that are written in pieces.
-use Rattle.std.proofs.Common.{◌≡◌, ◌<◌, ◌≤◌, ◌-◌, ◌++◌, ◌∷◌, [], ◌∙◌, ℕ, suc, List, ap, sym, subst, append_assoc, length, map, take, drop, get_or, drop-cons, arith}
+use Rattle.std.proofs.Common.{◌≡◌, ◌<◌, ◌≤◌, ◌-◌, ◌++◌, ◌∷◌, [], ◌∙◌, ℕ, suc, List, ap, sym, subst, append_assoc, append-nil, length, take, drop, get_or, drop-cons, arith}
 use Rattle.std.proofs.lemmas.List.{take_all}
 use Rattle.std.proofs.lemmas.List.Folds.{flat_map-map}
 use Rattle.std.specs.Prelude.{Option, codes, flat_map}
@@ -8,19 +8,18 @@ use Rattle.circuit_l4.specs.declared.facts.EndFacts.{EndFacts}
 use Rattle.circuit_table.specs.CircuitSets.{facts_at}
 use Rattle.circuit_table.specs.Sets.{Holder, end_of}
 use Rattle.circuit_verdict.specs.declared.late.Late.{Late}
-use Rattle.network_file.specs.declared.plan.declarations.Declaration.{Declaration}
-use Rattle.node_core.specs.Standing.{Kept, NodeStands}
-use Rattle.node_mail.specs.Lists.{Lists, StoreView}
+use Rattle.node_core.specs.Standing.{NodeStands}
+use Rattle.node_mail.specs.Lists.{Lists}
 use Rattle.net_model.specs.declared.ends.EndRecord.{EndRecord}
 use Rattle.net_model.specs.Ends.{ends_of}
 use Rattle.net_model.specs.Events.{numbered_of}
-use Rattle.net_model.specs.Standing.{AreDeclared}
 use Rattle.net_report.specs.Reporting.{ends_left, text_left}
 use Rattle.net_report.specs.Reports.{by_place, nodes_text, report_text, told_text, verdict_line}
 use Rattle.net_model.specs.Starting.{Placed}
 use Rattle.net_report.specs.ToldLines.{last_text, last_texts}
-use Rattle.net_model.specs.Standing.{IsTraceOf, Left, MailStands, MailsStand, StandFor}
+use Rattle.net_model.specs.Standing.{IsTraceOf, Left, MailStands, MemberStands, MembersStand}
 use Rattle.net_model.specs.World.{World}
+use Rattle.net_model.specs.declared.members.Member.{Member}
 
 -- the start of the line, the frame, and the line feed
 pub frame_line_joined : (text start : List ℕ) (number sender : ℕ) (frame : List ℕ) → start ≡ codes "air " ++ (decimal number ++ (codes " " ++ (decimal sender ++ codes " ")))
@@ -53,50 +52,49 @@ next_end number place id ends end facts held text next all e h is so_far =
     λ k. facts ≡ facts_at (end_of k held) → next ≡ text ++ last_text number k end facts → next ++ last_texts number (suc k) (drop k ends) held ≡ all in
     subst P (sym e) (λ told wrote. ends_on number place ends end facts held text next all h is told wrote so_far)
 
--- the first node, and then the others
-pub nodes_joined : {A : Type 0} (of : Placed → List A) (declared : List Declaration) (nodes : List Kept) (d : Declaration) (n : Kept) (placed : List Placed) (text mid new : List A)
-    → 1 ≤ length declared → d ≡ get_or declared 0 d → 1 ≤ length nodes → n ≡ get_or nodes 0 n → AreDeclared declared placed → StandFor nodes placed
-    → ((p : Placed) → d ≡ p.declared → NodeStands n p.state → mid ≡ text ++ of p)
-    → ((ps : List Placed) → AreDeclared (take (length declared - 1) (drop 1 declared)) ps → StandFor (take (length nodes - 1) (drop 1 nodes)) ps
-    → new ≡ mid ++ flat_map of ps)
-    → new ≡ text ++ flat_map of placed
-nodes_joined of [] nodes d n placed text mid new some first some_nodes first_node e stand one rest = absurd (omega arith)
-nodes_joined of (x ∷ xs) [] d n placed text mid new some first some_nodes first_node e stand one rest = absurd (omega arith)
-nodes_joined of (x ∷ xs) (m ∷ ms) d n [] text mid new some first some_nodes first_node e stand one rest = absurd stand
-nodes_joined of (x ∷ xs) (m ∷ ms) d n (p ∷ ps) text mid new some first some_nodes first_node e stand one rest =
-    let same : x ≡ p.declared = cc in
-    let others : xs ≡ map (λ (q : Placed). q.declared) ps = cc in
-    let all : take (length (x ∷ xs) - 1) xs ≡ xs = take_all _ xs (omega arith) in
-    let all_nodes : take (length (m ∷ ms) - 1) ms ≡ ms = take_all _ ms (omega arith) in
-    let here : NodeStands n p.state = subst (λ (k : Kept). NodeStands k p.state) (sym first_node) stand.0 in
-    let rest_declared : AreDeclared (take (length (x ∷ xs) - 1) xs) ps = all ∙ others in
-    let rest_stand : StandFor (take (length (m ∷ ms) - 1) ms) ps = subst (λ (ks : List Kept). StandFor ks ps) (sym all_nodes) stand.1 in
-    rest ps rest_declared rest_stand
-    ∙ (ap (λ t. t ++ flat_map of ps) (one p (first ∙ same) here) ∙ append_assoc text (of p) (flat_map of ps))
-
 -- the first node with its mail, and then the others
-pub kept_joined : {A : Type 0} (of : Placed → Option Lists → List A) (declared : List Declaration) (nodes : List Kept) (mails : List (Option StoreView)) (d : Declaration) (n : Kept) (m : Option StoreView) (placed : List Placed) (kept : List (Option Lists)) (text mid new : List A)
-    → 1 ≤ length declared → d ≡ get_or declared 0 d → 1 ≤ length nodes → n ≡ get_or nodes 0 n → 1 ≤ length mails → m ≡ get_or mails 0 m
-    → AreDeclared declared placed → StandFor nodes placed → MailsStand mails kept
-    → ((p : Placed) (o : Option Lists) → d ≡ p.declared → NodeStands n p.state → MailStands m o → mid ≡ text ++ of p o)
-    → ((ps : List Placed) (os : List (Option Lists)) → AreDeclared (take (length declared - 1) (drop 1 declared)) ps → StandFor (take (length nodes - 1) (drop 1 nodes)) ps
-    → MailsStand (take (length mails - 1) (drop 1 mails)) os → new ≡ mid ++ by_place of ps os)
+pub kept_joined : {A : Type 0} (of : Placed → Option Lists → List A) (members : List Member) (m : Member) (placed : List Placed) (kept : List (Option Lists)) (text mid new : List A)
+    → 1 ≤ length members → m ≡ get_or members 0 m → MembersStand members placed kept
+    → ((p : Placed) (o : Option Lists) → m.declared ≡ p.declared → NodeStands m.node p.state → MailStands m.mail o → mid ≡ text ++ of p o)
+    → ((ps : List Placed) (os : List (Option Lists)) → MembersStand (take (length members - 1) (drop 1 members)) ps os → new ≡ mid ++ by_place of ps os)
     → new ≡ text ++ by_place of placed kept
-kept_joined of [] nodes mails d n m placed kept text mid new some first some_nodes first_node some_mails first_mail e stand keep one rest = absurd (omega (arith, some))
-kept_joined of (x ∷ xs) [] mails d n m placed kept text mid new some first some_nodes first_node some_mails first_mail e stand keep one rest = absurd (omega (arith, some_nodes))
-kept_joined of (x ∷ xs) (y ∷ ys) [] d n m placed kept text mid new some first some_nodes first_node some_mails first_mail e stand keep one rest = absurd (omega (arith, some_mails))
-kept_joined of (x ∷ xs) (y ∷ ys) (z ∷ zs) d n m [] kept text mid new some first some_nodes first_node some_mails first_mail e stand keep one rest = absurd stand
-kept_joined of (x ∷ xs) (y ∷ ys) (z ∷ zs) d n m (p ∷ ps) [] text mid new some first some_nodes first_node some_mails first_mail e stand keep one rest = absurd keep
-kept_joined of (x ∷ xs) (y ∷ ys) (z ∷ zs) d n m (p ∷ ps) (o ∷ os) text mid new some first some_nodes first_node some_mails first_mail e stand keep one rest =
-    let same : x ≡ p.declared = cc e in
-    let others : xs ≡ map (λ (q : Placed). q.declared) ps = cc e in
+kept_joined of [] m placed kept text mid new some first stand one rest = absurd (omega (arith, some))
+kept_joined of (x ∷ xs) m [] kept text mid new some first stand one rest = absurd stand
+kept_joined of (x ∷ xs) m (p ∷ ps) [] text mid new some first stand one rest = absurd stand
+kept_joined of (x ∷ xs) m (p ∷ ps) (o ∷ os) text mid new some first stand one rest =
     let all : take (length (x ∷ xs) - 1) xs ≡ xs = take_all _ xs (omega arith) in
-    let all_nodes : take (length (y ∷ ys) - 1) ys ≡ ys = take_all _ ys (omega arith) in
-    let all_mails : take (length (z ∷ zs) - 1) zs ≡ zs = take_all _ zs (omega arith) in
-    let here : NodeStands n p.state = subst (λ (k : Kept). NodeStands k p.state) (sym first_node) stand.0 in
-    let mail : MailStands m o = subst (λ (v : Option StoreView). MailStands v o) (sym first_mail) keep.0 in
-    rest ps os (all ∙ others) (subst (λ (ks : List Kept). StandFor ks ps) (sym all_nodes) stand.1) (subst (λ (vs : List (Option StoreView)). MailsStand vs os) (sym all_mails) keep.1)
-    ∙ (ap (λ t. t ++ by_place of ps os) (one p o (first ∙ same) here mail) ∙ append_assoc text (of p o) (by_place of ps os))
+    let here : MemberStands m p o = subst (λ (k : Member). MemberStands k p o) (sym first) stand.0 in
+    rest ps os (subst (λ (ms : List Member). MembersStand ms ps os) (sym all) stand.1)
+    ∙ (ap (λ t. t ++ by_place of ps os) (one p o here.declared here.node here.mail) ∙ append_assoc text (of p o) (by_place of ps os))
+
+-- the same of the nodes alone
+pub nodes_joined : {A : Type 0} (of : Placed → List A) (members : List Member) (m : Member) (placed : List Placed) (kept : List (Option Lists)) (text mid new : List A)
+    → 1 ≤ length members → m ≡ get_or members 0 m → MembersStand members placed kept
+    → ((p : Placed) → m.declared ≡ p.declared → NodeStands m.node p.state → mid ≡ text ++ of p)
+    → ((ps : List Placed) (os : List (Option Lists)) → MembersStand (take (length members - 1) (drop 1 members)) ps os → new ≡ mid ++ flat_map of ps)
+    → new ≡ text ++ flat_map of placed
+nodes_joined of [] m placed kept text mid new some first stand one rest = absurd (omega (arith, some))
+nodes_joined of (x ∷ xs) m [] kept text mid new some first stand one rest = absurd stand
+nodes_joined of (x ∷ xs) m (p ∷ ps) [] text mid new some first stand one rest = absurd stand
+nodes_joined of (x ∷ xs) m (p ∷ ps) (o ∷ os) text mid new some first stand one rest =
+    let all : take (length (x ∷ xs) - 1) xs ≡ xs = take_all _ xs (omega arith) in
+    let here : MemberStands m p o = subst (λ (k : Member). MemberStands k p o) (sym first) stand.0 in
+    rest ps os (subst (λ (ms : List Member). MembersStand ms ps os) (sym all) stand.1)
+    ∙ (ap (λ t. t ++ flat_map of ps) (one p here.declared here.node) ∙ append_assoc text (of p) (flat_map of ps))
+
+-- of none nothing is written
+pub none_placed : {A : Type 0} (of : Placed → Option Lists → List A) (members : List Member) (placed : List Placed) (kept : List (Option Lists)) (text : List A) → length members ≡ 0
+    → MembersStand members placed kept → text ≡ text ++ by_place of placed kept
+none_placed of [] [] [] text none stand = sym (append-nil text)
+none_placed of [] [] (o ∷ os) text none stand = absurd stand
+none_placed of [] (p ∷ ps) kept text none stand = absurd stand
+none_placed of (m ∷ ms) placed kept text none stand = absurd (omega (arith, none))
+
+pub none_added : {A : Type 0} (of : Placed → List A) (members : List Member) (placed : List Placed) (kept : List (Option Lists)) (text : List A) → length members ≡ 0
+    → MembersStand members placed kept → text ≡ text ++ flat_map of placed
+none_added of [] [] kept text none stand = sym (append-nil text)
+none_added of [] (p ∷ ps) kept text none stand = absurd stand
+none_added of (m ∷ ms) placed kept text none stand = absurd (omega (arith, none))
 
 -- ---- the report as a whole
 

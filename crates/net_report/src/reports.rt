@@ -9,12 +9,11 @@ ghost use Rattle.node_model.specs.States.{NodeState};
 ghost use Rattle.node_mail.specs.Lists.{Lists};
 ghost use Rattle.net_model.specs.World.{frame_of, World};
 ghost use Rattle.net_model.specs.Refused.{word_for_why};
-ghost use Rattle.net_model.specs.Standing.{AreDeclared};
 ghost use Rattle.net_report.specs.Reporting.{ends_left, text_left};
 ghost use Rattle.net_report.specs.Reports as texts;
 ghost use Rattle.net_model.specs.Starting.{Placed};
 ghost use Rattle.net_report.specs.ToldLines as entries;
-ghost use Rattle.net_model.specs.Standing.{IsTraceOf, MailStands, MailsStand, StandFor};
+ghost use Rattle.net_model.specs.Standing.{IsTraceOf, MailStands, MembersStand};
 ghost use Rattle.net_world.specs.Traces.{left_of};
 
 use crate::entries::{write_entry, write_last};
@@ -25,9 +24,8 @@ use crate::told::tables::write_table;
 use arrayvec::ArrayString;
 use ax_frame::{read_frame, show_frame};
 use circuit_verdict::{Late, LateWhy};
-use net_model::{Aired, EndRecord, Event, LineRefusal, NumberedEvent, shown};
+use net_model::{Aired, EndRecord, Event, LineRefusal, Member, NumberedEvent, shown};
 use net_world::Trace;
-use network_file::Declaration;
 use node_core::{Node, NodeEntry};
 use node_mail::Store;
 use radio_base::{LinkModulus, M8, M128, Modulus, NoMemory, TextOut, push_decimal};
@@ -57,14 +55,7 @@ fn report_of(alloc: Global, trace: &Trace, late: Option<Late>) -> Result<TextOut
 {
     let mut text = TextOut::new(alloc);
     write_events(alloc, trace, &mut text)?;
-    write_nodes(
-        alloc,
-        trace,
-        trace.declared(),
-        trace.nodes(),
-        trace.mails(),
-        &mut text,
-    )?;
+    write_nodes(alloc, trace, trace.members(), &mut text)?;
     write_verdict(alloc, late, &mut text)?;
     Ok(text)
 }
@@ -163,53 +154,37 @@ fn write_read<M: Modulus>(octets: &[u8], text: &mut TextOut) -> Result<(), NoMem
 fn write_nodes(
     alloc: Global,
     trace: &Trace,
-    declared: &[Declaration],
-    nodes: &[Node],
-    mails: &[Option<Store>],
+    members: &[Member],
     text: &mut TextOut,
 ) -> Result<(), NoMemory>
-    ensures { OnOk result ((placed : List Placed) (kept : List (Option Lists)) → AreDeclared declared.now placed
-        → StandFor nodes.now placed → MailsStand mails.now kept
+    ensures { OnOk result ((placed : List Placed) (kept : List (Option Lists)) → MembersStand members.now placed kept
         → text.new ≡ text.old ++ texts.nodes_text (ends_left (left_of trace.now)) placed kept) }
 {
-    match declared {
+    match members {
         [] => Ok(()),
-        [first, others @ ..] => match nodes {
-            [] => Ok(()),
-            [node, more @ ..] => match mails {
-                [] => Ok(()),
-                [mail, left @ ..] => {
-                    write_node(alloc, trace, first, node, mail, text)?;
-                    write_nodes(alloc, trace, others, more, left, text)?;
-                    Ok(())
-                }
-            },
-        },
+        [first, others @ ..] => {
+            write_node(alloc, trace, first, text)?;
+            write_nodes(alloc, trace, others, text)?;
+            Ok(())
+        }
     }
 }
 
 fn write_node(
     alloc: Global,
     trace: &Trace,
-    declared: &Declaration,
-    node: &Node,
-    mail: &Option<Store>,
+    member: &Member,
     text: &mut TextOut,
 ) -> Result<(), NoMemory>
-    ensures { OnOk result ((p : Placed) (kept : Option Lists) → declared.now ≡ p.declared → NodeStands node.now p.state
-        → MailStands mail.now kept
+    ensures { OnOk result ((p : Placed) (kept : Option Lists) → member.now.declared ≡ p.declared
+        → NodeStands member.now.node p.state → MailStands member.now.mail kept
         → text.new ≡ text.old ++ texts.kept_text (ends_left (left_of trace.now)) p kept) }
 {
-    let table = shown(alloc, declared, node)?;
+    let table = shown(alloc, &member.declared, &member.node)?;
     write_table(alloc, &table, text)?;
-    write_ends(
-        alloc,
-        declared.node,
-        trace.ends_of(declared.node),
-        node,
-        text,
-    )?;
-    write_mail(alloc, declared.node, mail, text)?;
+    let number = member.declared.node;
+    write_ends(alloc, number, trace.ends_of(number), &member.node, text)?;
+    write_mail(alloc, number, &member.mail, text)?;
     Ok(())
 }
 

@@ -1,13 +1,13 @@
 //! The line on what came of a soak. Called by node_cmd, through net_replay.
-ghost use Rattle.std.specs.Prelude.{◌≡◌, ◌++◌, ℕ, List, length, map, flat_map, string_bytes, OnOk, OnErr, IfOk};
+ghost use Rattle.std.specs.Prelude.{◌≡◌, ◌++◌, ℕ, List, Option, length, map, flat_map, string_bytes, OnOk, OnErr, IfOk};
 ghost use Rattle.node_core.specs.Standing.{NodeStands, entry_of};
+ghost use Rattle.node_mail.specs.Lists.{Lists};
 ghost use Rattle.node_model.specs.States.{NodeState};
 ghost use Rattle.net_model.specs.Events.{Entry, event_of, numbered_of};
-ghost use Rattle.net_model.specs.Standing.{AreDeclared};
 ghost use Rattle.net_report.specs.Reporting.{ends_left};
 ghost use Rattle.net_report.specs.Reports as texts;
 ghost use Rattle.net_model.specs.Starting.{Placed};
-ghost use Rattle.net_model.specs.Standing.{IsTraceOf, StandFor};
+ghost use Rattle.net_model.specs.Standing.{IsTraceOf, MembersStand};
 ghost use Rattle.net_world.specs.Traces.{left_of};
 ghost use Rattle.net_model.specs.World.{World};
 
@@ -15,9 +15,8 @@ use crate::reports::write_verdict;
 use circuit_l4::{EndFacts, EndNotice};
 use circuit_table::SetEvent;
 use circuit_verdict::Late;
-use net_model::{EndRecord, Event, NumberedEvent, Outcome};
+use net_model::{EndRecord, Event, Member, NumberedEvent, Outcome};
 use net_world::Trace;
-use network_file::Declaration;
 use node_core::{Node, NodeEntry};
 use radio_base::{NoMemory, TextOut};
 use std::alloc::{AllocError, Global};
@@ -136,42 +135,29 @@ fn facts_left(alloc: Global, trace: &Trace) -> Result<Vec<EndFacts>, NoMemory>
     ensures { IfOk result (λ ends. (w : World) → IsTraceOf (left_of trace.now) w → ends.items ≡ texts.facts_left w) }
 {
     let mut ends = Vec::new(alloc);
-    add_nodes(trace, trace.declared(), trace.nodes(), &mut ends)?;
+    add_nodes(trace, trace.members(), &mut ends)?;
     Ok(ends)
 }
 
-fn add_nodes(
-    trace: &Trace,
-    declared: &[Declaration],
-    nodes: &[Node],
-    ends: &mut Vec<EndFacts>,
-) -> Result<(), NoMemory>
-    ensures { OnOk result ((placed : List Placed) → AreDeclared declared.now placed → StandFor nodes.now placed
+fn add_nodes(trace: &Trace, members: &[Member], ends: &mut Vec<EndFacts>) -> Result<(), NoMemory>
+    ensures { OnOk result ((placed : List Placed) (kept : List (Option Lists)) → MembersStand members.now placed kept
         → ends.new.items ≡ ends.old.items ++ flat_map (texts.facts_of (ends_left (left_of trace.now))) placed) }
 {
-    match declared {
+    match members {
         [] => Ok(()),
-        [first, others @ ..] => match nodes {
-            [] => Ok(()),
-            [node, more @ ..] => {
-                add_node(trace, first, node, ends)?;
-                add_nodes(trace, others, more, ends)?;
-                Ok(())
-            }
-        },
+        [first, others @ ..] => {
+            add_node(trace, first, ends)?;
+            add_nodes(trace, others, ends)?;
+            Ok(())
+        }
     }
 }
 
-fn add_node(
-    trace: &Trace,
-    declared: &Declaration,
-    node: &Node,
-    ends: &mut Vec<EndFacts>,
-) -> Result<(), NoMemory>
-    ensures { OnOk result ((p : Placed) → declared.now ≡ p.declared → NodeStands node.now p.state
+fn add_node(trace: &Trace, member: &Member, ends: &mut Vec<EndFacts>) -> Result<(), NoMemory>
+    ensures { OnOk result ((p : Placed) → member.now.declared ≡ p.declared → NodeStands member.now.node p.state
         → ends.new.items ≡ ends.old.items ++ texts.facts_of (ends_left (left_of trace.now)) p) }
 {
-    add_ends(trace.ends_of(declared.node), node, ends)?;
+    add_ends(trace.ends_of(member.declared.node), &member.node, ends)?;
     Ok(())
 }
 

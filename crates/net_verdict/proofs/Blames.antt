@@ -3,7 +3,6 @@ use Rattle.std.proofs.Common.{◌≡◌, ◌<◌, ◌≤◌, ◌+◌, ◌-◌, �
 use Rattle.std.specs.Prelude.{Bool, true, false, is_some, if◌then◌else◌, slice_get, slice_index, Option, Some, None}
 use Rattle.std.specs.Option.{option_map}
 use Rattle.std.proofs.lemmas.List.{drop_all, length-map, length-take-le, map-append, take-append-drop, take_more}
-use Rattle.std.proofs.lemmas.Option.{slice_get-map}
 use Rattle.circuit_table.specs.Events as set_events
 use Rattle.circuit_verdict.specs.Causes.{Shows, cause_after}
 use Rattle.circuit_verdict.specs.Verdicts.{AreInTime, allows_of, events_of}
@@ -25,6 +24,8 @@ use Rattle.net_verdict.specs.Judging.{told_here}
 use Rattle.net_model.specs.Standing.{AreDeclared}
 use Rattle.net_model.specs.Starting.{Placed}
 use Rattle.net_model.proofs.WhatWasTold.{told_are}
+use Rattle.net_model.specs.declared.members.Member.{Member}
+use Rattle.net_model.proofs.Stores.{declared_at}
 
 -- ---- what a verdict has taken in
 
@@ -180,9 +181,6 @@ none_left es i left number nodes h = ap (λ (ys : List NumberedEvent). slice_ind
 
 -- ---- nodes by their numbers
 
-declared_there : (declared : List Declaration) (nodes : List Placed) (k : ℕ) → AreDeclared declared nodes → slice_get declared k ≡ option_map (λ (p : Placed). p.declared) (slice_get nodes k)
-declared_there declared nodes k e = ap (λ (ds : List Declaration). slice_get ds k) e ∙ slice_get-map (λ (p : Placed). p.declared) nodes k
-
 number_some : (o : Option Placed) (d : Declaration) → Some d ≡ option_map (λ (p : Placed). p.declared) o → d.node ≡ number_in o
 number_some None d e = absurd (cc e)
 number_some (Some p) d e = let same : d ≡ p.declared = cc e in ap (λ (x : Declaration). x.node) same
@@ -191,8 +189,9 @@ number_none : (o : Option Placed) → None ≡ option_map (λ (p : Placed). p.de
 number_none None e = refl
 number_none (Some p) e = absurd (cc e)
 
-pub number_found : (declared : List Declaration) (nodes : List Placed) (k : ℕ) (d : Declaration) → AreDeclared declared nodes → slice_get declared k ≡ Some d → d.node ≡ number_in (slice_get nodes k)
-number_found declared nodes k d e f = number_some (slice_get nodes k) d (sym f ∙ declared_there declared nodes k e)
+pub number_found : (members : List Member) (nodes : List Placed) (k : ℕ) (m : Member) → AreDeclared members nodes → slice_get members k ≡ Some m → m.declared.node ≡ number_in (slice_get nodes k)
+number_found members nodes k m e f =
+    number_some (slice_get nodes k) m.declared (sym (ap (option_map (λ (x : Member). x.declared)) f) ∙ declared_at members nodes k e)
 
-pub number_missing : (declared : List Declaration) (nodes : List Placed) (k : ℕ) → AreDeclared declared nodes → slice_get declared k ≡ None → 0 ≡ number_in (slice_get nodes k)
-number_missing declared nodes k e f = number_none (slice_get nodes k) (sym f ∙ declared_there declared nodes k e)
+pub number_missing : (members : List Member) (nodes : List Placed) (k : ℕ) → AreDeclared members nodes → slice_get members k ≡ None → 0 ≡ number_in (slice_get nodes k)
+number_missing members nodes k e f = number_none (slice_get nodes k) (sym (ap (option_map (λ (x : Member). x.declared)) f) ∙ declared_at members nodes k e)

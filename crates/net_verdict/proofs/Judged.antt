@@ -4,7 +4,6 @@ use Rattle.std.proofs.lemmas.List.{drop_all}
 use Rattle.std.specs.Prelude.{Option, Some, None, slice_get}
 use Rattle.std.specs.List.{position_or_len}
 use Rattle.std.specs.Option.{option_map}
-use Rattle.std.proofs.lemmas.Option.{slice_get-map}
 use Rattle.ax_address.specs.Callsign.{Callsign}
 use Rattle.circuit_table.specs.Pumps as pumps
 use Rattle.circuit_table.specs.Sets as sets
@@ -21,11 +20,12 @@ use Rattle.net_model.specs.Circuits.{CircuitEvent, IsVerdictOn, allowance_of, at
 use Rattle.net_model.specs.Events as events
 use Rattle.net_model.specs.Events.{Event, event_of, numbered_of}
 use Rattle.net_verdict.specs.Judging.{Heeds, circuit_told}
-use Rattle.net_model.specs.Standing.{AreDeclared}
-use Rattle.net_model.specs.Starting.{Placed, has_number}
+use Rattle.net_model.specs.Standing.{AreDeclared, is_member}
+use Rattle.net_model.specs.Starting.{Placed}
 use Rattle.net_model.specs.Standing.{IsTraceOf, Left}
-use Rattle.net_model.specs.World.{World, place_of_node}
-use Rattle.net_model.proofs.Containing.{place_named}
+use Rattle.net_model.specs.World.{World}
+use Rattle.net_model.specs.declared.members.Member.{Member}
+use Rattle.net_model.proofs.Stores.{all_declared, declared_at, declared_place}
 
 -- ---- nothing, and one list behind another
 
@@ -89,10 +89,6 @@ event_told nodes line other = refl
 
 -- ---- what is told at the node of a number
 
-there : (number : ℕ) (declared : List Declaration) (nodes : List Placed) → AreDeclared declared nodes
-    → position_or_len (has_number number) declared ≡ place_of_node number nodes
-there number declared nodes e = ap (position_or_len (has_number number)) e ∙ sym (place_named number nodes)
-
 one_at : (line at : ℕ) (o : Option Placed) (told : sets.CircuitTold) (own : Callsign) → option_map (λ p. p.declared.call) o ≡ Some own
     → at_node line at o told ≡ record { line = line; event = record { node = at; own = own; told = told } } ∷ []
 one_at line at None told own e = cc
@@ -102,35 +98,37 @@ none_at : (line at : ℕ) (o : Option Placed) (told : sets.CircuitTold) → opti
 none_at line at None told e = refl
 none_at line at (Some p) told e = cc
 
-calls_of : (o : Option Placed) → option_map (λ (d : Declaration). d.call) (option_map (λ (p : Placed). p.declared) o) ≡ option_map (λ (p : Placed). p.declared.call) o
-calls_of None = refl
-calls_of (Some p) = refl
+calls_of : {A : Type 0} (f : A → Declaration) (o : Option A) → option_map (λ (d : Declaration). d.call) (option_map f o) ≡ option_map (λ x. (f x).call) o
+calls_of f None = refl
+calls_of f (Some x) = refl
 
-call_there : (declared : List Declaration) (nodes : List Placed) (k : ℕ) → AreDeclared declared nodes
-    → option_map (λ (p : Placed). p.declared.call) (slice_get nodes k) ≡ option_map (λ (d : Declaration). d.call) (slice_get declared k)
-call_there declared nodes k e =
-    sym (calls_of (slice_get nodes k)) ∙ ap (option_map (λ (d : Declaration). d.call)) (sym (slice_get-map (λ (p : Placed). p.declared) nodes k) ∙ ap (λ (ds : List Declaration). slice_get ds k) (sym e))
+call_there : (members : List Member) (nodes : List Placed) (k : ℕ) → AreDeclared members nodes
+    → option_map (λ (p : Placed). p.declared.call) (slice_get nodes k) ≡ option_map (λ (m : Member). m.declared.call) (slice_get members k)
+call_there members nodes k e =
+    sym (calls_of (λ (p : Placed). p.declared) (slice_get nodes k))
+    ∙ (ap (option_map (λ (d : Declaration). d.call)) (sym (declared_at members nodes k e)) ∙ calls_of (λ (m : Member). m.declared) (slice_get members k))
 
-pub told_one : (declared : List Declaration) (nodes : List Placed) (line number k : ℕ) (told : sets.CircuitTold) (own : Callsign) → AreDeclared declared nodes
-    → k ≡ position_or_len (has_number number) declared → option_map (λ (d : Declaration). d.call) (slice_get declared k) ≡ Some own
+pub told_one : (members : List Member) (nodes : List Placed) (line number k : ℕ) (told : sets.CircuitTold) (own : Callsign) → AreDeclared members nodes
+    → k ≡ position_or_len (is_member number) members → option_map (λ (m : Member). m.declared.call) (slice_get members k) ≡ Some own
     → told_at nodes line number told ≡ record { line = line; event = record { node = k; own = own; told = told } } ∷ []
-told_one declared nodes line number k told own e place h =
-    ap (λ at. at_node line at (slice_get nodes at) told) (sym (place ∙ there number declared nodes e)) ∙ one_at line k (slice_get nodes k) told own (call_there declared nodes k e ∙ h)
+told_one members nodes line number k told own e place h =
+    ap (λ at. at_node line at (slice_get nodes at) told) (sym (place ∙ declared_place number members nodes e)) ∙ one_at line k (slice_get nodes k) told own (call_there members nodes k e ∙ h)
 
-pub told_none : (declared : List Declaration) (nodes : List Placed) (line number k : ℕ) (told : sets.CircuitTold) → AreDeclared declared nodes
-    → k ≡ position_or_len (has_number number) declared → option_map (λ (d : Declaration). d.call) (slice_get declared k) ≡ None → told_at nodes line number told ≡ []
-told_none declared nodes line number k told e place h =
-    ap (λ at. at_node line at (slice_get nodes at) told) (sym (place ∙ there number declared nodes e)) ∙ none_at line k (slice_get nodes k) told (call_there declared nodes k e ∙ h)
+pub told_none : (members : List Member) (nodes : List Placed) (line number k : ℕ) (told : sets.CircuitTold) → AreDeclared members nodes
+    → k ≡ position_or_len (is_member number) members → option_map (λ (m : Member). m.declared.call) (slice_get members k) ≡ None → told_at nodes line number told ≡ []
+told_none members nodes line number k told e place h =
+    ap (λ at. at_node line at (slice_get nodes at) told) (sym (place ∙ declared_place number members nodes e)) ∙ none_at line k (slice_get nodes k) told (call_there members nodes k e ∙ h)
 
 -- ---- the verdict on all of it
 
-pub judges_all : (old new : Verdict) (left : Left) (declared : List Declaration) (events : List NumberedEvent) (late : Option Late) (plan : Plan) (w : World)
-    → StandsFor old [] → allowance_in old ≡ allowance_of plan → IsTraceOf left w → declared ≡ left.declared → events ≡ left.events
-    → ((nodes : List Placed) → AreDeclared declared nodes → Heeds old new (events_at nodes (map numbered_of events)))
+pub judges_all : (old new : Verdict) (left : Left) (members : List Member) (events : List NumberedEvent) (late : Option Late) (plan : Plan) (w : World)
+    → StandsFor old [] → allowance_in old ≡ allowance_of plan → IsTraceOf left w → members ≡ left.members → events ≡ left.events
+    → ((nodes : List Placed) → AreDeclared members nodes → Heeds old new (events_at nodes (map numbered_of events)))
     → ((ns : List Numbered) → StandsFor new ns → IsVerdict (allowance_in new) ns late)
     → IsVerdictOn plan w late
-judges_all old new left declared events late plan w start allowed trace same_declared same_events heeds judges =
-    let taken = heeds w.nodes (same_declared ∙ trace.declared) in
+judges_all old new left members events late plan w start allowed trace same_members same_events heeds judges =
+    let declared : AreDeclared members w.nodes = ap (map (λ (m : Member). m.declared)) same_members ∙ all_declared left.members w.nodes w.mails trace.members in
+    let taken = heeds w.nodes declared in
     let all = taken.stands [] start in
     record {
       events = all.more;

@@ -15,9 +15,8 @@ ghost use Rattle.net_model.specs.World.{World};
 use crate::late::circuit_event;
 use crate::sign::Sign;
 use circuit_verdict::{Cause, Event as CircuitEvent, Verdict};
-use net_model::NumberedEvent;
+use net_model::{Member, NumberedEvent};
 use net_world::Trace;
-use network_file::Declaration;
 use radio_base::NoMemory;
 use std::alloc::Global;
 
@@ -36,11 +35,11 @@ pub fn late_cause(alloc: Global, trace: &Trace) -> Result<Option<LateCause>, NoM
         → IsVerdictOn plan w late → causes.IsCauseOf plan w late cause) }
 {
     let mut verdict = Verdict::new(alloc, trace.allowance());
-    let declared = trace.declared();
+    let members = trace.members();
     let events = trace.events();
-    match first_late(declared, &mut verdict, events)? {
+    match first_late(members, &mut verdict, events)? {
         Some((event, cause)) => {
-            let sign = sign_of(declared, events, cause);
+            let sign = sign_of(members, events, cause);
             Ok(Some(LateCause { event, sign }))
         }
         None => Ok(None),
@@ -49,16 +48,16 @@ pub fn late_cause(alloc: Global, trace: &Trace) -> Result<Option<LateCause>, NoM
 
 /// The number of the first event that comes too late, and by what it does.
 fn first_late(
-    declared: &[Declaration],
+    members: &[Member],
     verdict: &mut Verdict,
     events: &[NumberedEvent],
 ) -> Result<Option<(u64, Cause)>, NoMemory>
-    ensures { IfOk result (λ found. (a : Allowance) (nodes : List Placed) → AreDeclared declared.now nodes
+    ensures { IfOk result (λ found. (a : Allowance) (nodes : List Placed) → AreDeclared members.now nodes
         → causes.HasTaken a verdict.old []
         → causes.Finds a nodes (map numbered_of events.now) found) }
 {
     for at in 0..events.len() {
-        if let Some(cause) = judge(declared, verdict, &events[at])? {
+        if let Some(cause) = judge(members, verdict, &events[at])? {
             return Ok(Some((at as u64 + 1, cause)));
         }
     }
@@ -67,15 +66,15 @@ fn first_late(
 
 /// By what an event comes too late. Where it doesn't, it is taken in.
 fn judge(
-    declared: &[Declaration],
+    members: &[Member],
     verdict: &mut Verdict,
     numbered: &NumberedEvent,
 ) -> Result<Option<Cause>, NoMemory>
-    ensures { IfOk result (λ cause. (nodes : List Placed) → AreDeclared declared.now nodes
+    ensures { IfOk result (λ cause. (nodes : List Placed) → AreDeclared members.now nodes
         → causes.Judges verdict.old verdict.new
         (event_at nodes numbered.now.line (event_of numbered.now.event)) cause) }
 {
-    match circuit_event(declared, &numbered.event) {
+    match circuit_event(members, &numbered.event) {
         Some(event) => judge_told(verdict, numbered.line, &event),
         None => Ok(None),
     }
@@ -99,8 +98,8 @@ fn judge_told(
 }
 
 /// The cause, with nodes and events by their numbers.
-fn sign_of(declared: &[Declaration], events: &[NumberedEvent], cause: Cause) -> Sign
-    ensures { (nodes : List Placed) → AreDeclared declared.now nodes
+fn sign_of(members: &[Member], events: &[NumberedEvent], cause: Cause) -> Sign
+    ensures { (nodes : List Placed) → AreDeclared members.now nodes
         → result ≡ causes.sign_of nodes (map numbered_of events.now) cause }
 {
     match cause {
@@ -110,26 +109,26 @@ fn sign_of(declared: &[Declaration], events: &[NumberedEvent], cause: Cause) -> 
             overtakers,
             allowance,
         } => Sign::Overtaken {
-            sent: number_at(declared, events, sent),
+            sent: number_at(members, events, sent),
             overtakers,
             allowance,
         },
         Cause::Unasked => Sign::Unasked,
         Cause::Held { node, id } => Sign::Held {
-            node: number_of_node(declared, node),
+            node: number_of_node(members, node),
             end: id,
         },
     }
 }
 
 /// Of what was told of circuits: the number of the event at a place among all events.
-fn number_at(declared: &[Declaration], events: &[NumberedEvent], place: u64) -> u64
-    ensures { (nodes : List Placed) → AreDeclared declared.now nodes
+fn number_at(members: &[Member], events: &[NumberedEvent], place: u64) -> u64
+    ensures { (nodes : List Placed) → AreDeclared members.now nodes
         → result ≡ causes.number_at nodes (map numbered_of events.now) place }
 {
     let mut left = place;
     for at in 0..events.len() {
-        if circuit_event(declared, &events[at].event).is_none() {
+        if circuit_event(members, &events[at].event).is_none() {
             continue;
         }
         if left == 0 {
@@ -141,12 +140,12 @@ fn number_at(declared: &[Declaration], events: &[NumberedEvent], place: u64) -> 
 }
 
 /// The number of the node at a place.
-fn number_of_node(declared: &[Declaration], place: u64) -> u8
-    ensures { (nodes : List Placed) → AreDeclared declared.now nodes
+fn number_of_node(members: &[Member], place: u64) -> u8
+    ensures { (nodes : List Placed) → AreDeclared members.now nodes
         → result ≡ causes.number_in (slice_get nodes place) }
 {
-    match declared.get(place as usize) {
-        Some(one) => one.node,
+    match members.get(place as usize) {
+        Some(one) => one.declared.node,
         None => 0,
     }
 }

@@ -20,9 +20,8 @@ use ax_address::Call;
 use circuit_table::SetEvent;
 use circuit_verdict::{CircuitTold, Event as CircuitEvent, Late, Verdict};
 use l3_datagram::Datagram;
-use net_model::{Event, LostEnd, NumberedEvent, place_of};
+use net_model::{Event, LostEnd, Member, NumberedEvent, place_of};
 use net_world::Trace;
-use network_file::Declaration;
 use node_core::NodeEntry;
 use radio_base::NoMemory;
 use std::alloc::Global;
@@ -33,34 +32,34 @@ pub fn too_late(alloc: Global, trace: &Trace) -> Result<Option<Late>, NoMemory>
         → IsTraceOf (left_of trace.now) w → IsVerdictOn plan w late) }
 {
     let mut verdict = Verdict::new(alloc, trace.allowance());
-    heed_all(trace.declared(), &mut verdict, trace.events())?;
+    heed_all(trace.members(), &mut verdict, trace.events())?;
     Ok(verdict.late())
 }
 
 /// Takes in what the events tell of circuits.
 fn heed_all(
-    declared: &[Declaration],
+    members: &[Member],
     verdict: &mut Verdict,
     events: &[NumberedEvent],
 ) -> Result<(), NoMemory>
-    ensures { OnOk result ((nodes : List Placed) → AreDeclared declared.now nodes
+    ensures { OnOk result ((nodes : List Placed) → AreDeclared members.now nodes
         → Heeds verdict.old verdict.new (events_at nodes (map numbered_of events.now))) }
 {
     for numbered in events {
-        heed(declared, verdict, numbered)?;
+        heed(members, verdict, numbered)?;
     }
     Ok(())
 }
 
 pub(crate) fn heed(
-    declared: &[Declaration],
+    members: &[Member],
     verdict: &mut Verdict,
     numbered: &NumberedEvent,
 ) -> Result<(), NoMemory>
-    ensures { OnOk result ((nodes : List Placed) → AreDeclared declared.now nodes
+    ensures { OnOk result ((nodes : List Placed) → AreDeclared members.now nodes
         → Heeds verdict.old verdict.new (event_at nodes numbered.now.line (event_of numbered.now.event))) }
 {
-    match circuit_event(declared, &numbered.event) {
+    match circuit_event(members, &numbered.event) {
         Some(event) => {
             verdict.heed(&event, numbered.line)?;
             Ok(())
@@ -70,30 +69,27 @@ pub(crate) fn heed(
 }
 
 /// What an event tells of circuits, at the place of its node: nothing where it tells of none, or where there is no such node.
-pub(crate) fn circuit_event<'a>(
-    declared: &[Declaration],
-    event: &'a Event,
-) -> Option<CircuitEvent<'a>>
-    ensures { (nodes : List Placed) (line : ℕ) → AreDeclared declared.now nodes
+pub(crate) fn circuit_event<'a>(members: &[Member], event: &'a Event) -> Option<CircuitEvent<'a>>
+    ensures { (nodes : List Placed) (line : ℕ) → AreDeclared members.now nodes
         → event_at nodes line (event_of event.now) ≡ told_here line result }
 {
     let Some((number, told)) = told_in(event) else {
         return None;
     };
-    let Some((node, own)) = spot_of(declared, number) else {
+    let Some((node, own)) = spot_of(members, number) else {
         return None;
     };
     Some(CircuitEvent { node, own, told })
 }
 
 /// The place of the node of that number among the nodes, by which it is named, and its call.
-fn spot_of(declared: &[Declaration], number: u8) -> Option<(u64, Call)>
-    ensures { (nodes : List Placed) (line : ℕ) (told : sets.CircuitTold) → AreDeclared declared.now nodes
+fn spot_of(members: &[Member], number: u8) -> Option<(u64, Call)>
+    ensures { (nodes : List Placed) (line : ℕ) (told : sets.CircuitTold) → AreDeclared members.now nodes
         → told_at nodes line number told ≡ told_there line result told }
 {
-    let place = place_of(declared, number);
-    match declared.get(place) {
-        Some(one) => Some((place as u64, one.call)),
+    let place = place_of(members, number);
+    match members.get(place) {
+        Some(one) => Some((place as u64, one.declared.call)),
         None => None,
     }
 }

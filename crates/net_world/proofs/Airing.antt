@@ -190,9 +190,7 @@ put_one old new line node frame came f air e count tells w t =
       trace = record {
         told = t.trace.told;
         air = e ∙ ap (λ (fs : List Aired). fs ++ x ∷ []) t.trace.air;
-        declared = t.trace.declared;
-        nodes = t.trace.nodes;
-        mails = t.trace.mails;
+        members = t.trace.members;
         ends = t.trace.ends;
         allowance = t.trace.allowance;
       };

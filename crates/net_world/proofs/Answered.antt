@@ -15,14 +15,14 @@ use Rattle.net_model.specs.Events.{Event}
 use Rattle.net_model.specs.Lines.{refusal_events, events_of_act, took_of}
 use Rattle.net_world.specs.Running.{Course, GoesOn, Runs, Stands}
 use Rattle.net_model.specs.Answers.{IsAnswerTo, IsRefusedFor, answer_events, message_events, message_in, refusal_in, taken_events}
-use Rattle.net_model.specs.Starting.{has_number}
+use Rattle.net_model.specs.Standing.{is_member}
 use Rattle.net_model.specs.World.{Act, World, answer, place_of_node, put, reach, tell}
 use Rattle.net_world.proofs.Placing.{place_is}
 use Rattle.net_world.proofs.Runs.{goes_then, runs_as, runs_then}
 
 -- at the place of a number
 pub at_number : (old new : Course) (number at : ℕ) (f : ℕ → World → World) (r : Result (Unit {0}) ReplayRefusal)
-    → at ≡ position_or_len (has_number number) old.left.declared → Runs old new (f at) r → Runs old new (λ w. f (place_of_node number w.nodes) w) r
+    → at ≡ position_or_len (is_member number) old.left.members → Runs old new (f at) r → Runs old new (λ w. f (place_of_node number w.nodes) w) r
 at_number old new number at f r e h =
     runs_as old new (f at) (λ w. f (place_of_node number w.nodes) w) r (λ w t. ap (λ k. f k w) (place_is old w number at e t)) h
 

@@ -4,7 +4,7 @@ use Rattle.std.specs.Prelude.{Option, Some, None, Result, Ok, Err, IfOk, IfSome,
 use Rattle.std.specs.Option.{option_map}
 use Rattle.radio_base.specs.declared.no_memory.NoMemory.{NoMemory}
 use Rattle.network_file.specs.declared.plan.declarations.Declaration.{Declaration}
-use Rattle.node_core.specs.Standing.{Kept, NodeStands}
+use Rattle.node_core.specs.Standing.{NodeStands}
 use Rattle.net_model.specs.declared.events.Event.{Event as SeenEvent}
 use Rattle.node_model.specs.States as states
 use Rattle.node_model.specs.States.{NodeState}
@@ -15,6 +15,7 @@ use Rattle.net_model.specs.World.{Input, World, after, all_told, numbered, reach
 use Rattle.net_model.proofs.Looks.{all_entries_of, change_of, reaches}
 use Rattle.net_model.proofs.Changing.{get_set, set_same, set_twice}
 use Rattle.net_world.proofs.Placing.{at_place, declared_is}
+use Rattle.net_model.specs.declared.members.Member.{Member}
 
 -- ---- what reaches a node, and then its entries
 
@@ -87,22 +88,22 @@ unfolding all_entries change
 one_event line at v event first = event_of_option line at v event (slice_get v.nodes at) refl first
 
 -- what the first entry of a node is told as
-first_is : (c : Course) (w : World) (at : ℕ) (kept : Kept) (d : Declaration) (entry : states.Entry) (event : Option SeenEvent) → at < length c.left.nodes → kept ≡ get_or c.left.nodes at kept
-    → d ≡ get_or c.left.declared at d → ((s : NodeState) → NodeStands kept s → Some entry ≡ slice_get s.station.entries 0) → IfSome event (λ e. event_of e ≡ Entry d.node entry) → Stands c w
+first_is : (c : Course) (w : World) (at : ℕ) (kept : Member) (entry : states.Entry) (event : Option SeenEvent) → at < length c.left.members → kept ≡ get_or c.left.members at kept
+    → ((s : NodeState) → NodeStands kept.node s → Some entry ≡ slice_get s.station.entries 0) → IfSome event (λ e. event_of e ≡ Entry kept.declared.node entry) → Stands c w
     → IsFirst (option_map event_of event) (slice_get w.nodes at)
-first_is c w at kept d entry None h ke de says is t = tt
-first_is c w at kept d entry (Some e) h ke de says is t =
-    let place = at_place c.left.nodes w.nodes at kept h t.trace.nodes in
+first_is c w at kept entry None h ke says is t = tt
+first_is c w at kept entry (Some e) h ke says is t =
+    let place = at_place c.left.members w.nodes w.mails at kept h t.trace.members in
     let p : Placed = place.placed in
-    let first : Some entry ≡ slice_get p.state.station.entries 0 = says p.state (subst (λ k. NodeStands k p.state) (sym ke) place.stands) in
-    let same : p.declared ≡ d = declared_is c w at d p de t place.is_in in
+    let first : Some entry ≡ slice_get p.state.station.entries 0 = says p.state (subst (λ (m : Member). NodeStands m.node p.state) (sym ke) place.stands) in
+    let same : p.declared ≡ kept.declared = declared_is c w at kept p h ke t place.is_in in
     subst (λ o. IsFirst (Some (event_of e)) o) (sym place.is_in) (entry, first, is ∙ ap (λ (x : Declaration). Entry x.node entry) (sym same))
 
-pub first_told : (c : Course) (at : ℕ) (kept : Kept) (d : Declaration) (entry : states.Entry) (r : Result (Option SeenEvent) NoMemory) → at < length c.left.nodes → kept ≡ get_or c.left.nodes at kept
-    → d ≡ get_or c.left.declared at d → ((s : NodeState) → NodeStands kept s → Some entry ≡ slice_get s.station.entries 0)
-    → IfOk r (λ event. IfSome event (λ e. event_of e ≡ Entry d.node entry)) → IfOk r (λ event. (w : World) → Stands c w → IsFirst (option_map event_of event) (slice_get w.nodes at))
-first_told c at kept d entry (Ok event) h ke de says is = λ w t. first_is c w at kept d entry event h ke de says is t
-first_told c at kept d entry (Err e) h ke de says is = is
+pub first_told : (c : Course) (at : ℕ) (kept : Member) (entry : states.Entry) (r : Result (Option SeenEvent) NoMemory) → at < length c.left.members → kept ≡ get_or c.left.members at kept
+    → ((s : NodeState) → NodeStands kept.node s → Some entry ≡ slice_get s.station.entries 0)
+    → IfOk r (λ event. IfSome event (λ e. event_of e ≡ Entry kept.declared.node entry)) → IfOk r (λ event. (w : World) → Stands c w → IsFirst (option_map event_of event) (slice_get w.nodes at))
+first_told c at kept entry (Ok event) h ke says is = λ w t. first_is c w at kept entry event h ke says is t
+first_told c at kept entry (Err e) h ke says is = is
 
 -- ---- none is left
 

@@ -14,29 +14,30 @@ use Rattle.circuit_table.specs.Pumps.{Waiting, at_rest}
 use Rattle.circuit_table.specs.Sets.{Holder, end_of}
 use Rattle.circuit_table.specs.Standing.{by_write, take_answer, write_answer}
 use Rattle.link_table.specs.Standing.{TableView}
-use Rattle.node_core.specs.Standing.{Kept, NodeStands}
+use Rattle.node_core.specs.Standing.{NodeStands}
 use Rattle.node_model.specs.States.{NodeState}
 use Rattle.net_world.specs.Agents.{is_requested, is_up_end}
 use Rattle.net_model.specs.Mailing.{dest_of, ends_here, is_agents, mail_in, waits}
 use Rattle.net_world.specs.Running.{Course, Stands}
-use Rattle.net_model.specs.Starting.{has_number}
+use Rattle.net_model.specs.Standing.{is_member}
 use Rattle.net_model.specs.World.{World}
 use Rattle.net_model.proofs.Looks.{ends_of_placed}
 use Rattle.net_world.proofs.Placing.{at_place, past_place, place_is}
+use Rattle.net_model.specs.declared.members.Member.{Member}
 
 -- ---- the ends of the node at a place are those of its circuits, of which nothing is untold
 
-pub looks : (c : Course) (w : World) (at : ℕ) (before : Kept) (lent : Circuits TableView) (P : List Holder → Type 0) → at < length c.left.nodes → Stands c w
-    → before ≡ get_or c.left.nodes at before → ((n : NodeState) → NodeStands before n → SetStands lent (at_rest n.station.set.set))
+pub looks : (c : Course) (w : World) (at : ℕ) (before : Member) (lent : Circuits TableView) (P : List Holder → Type 0) → at < length c.left.members → Stands c w
+    → before ≡ get_or c.left.members at before → ((n : NodeState) → NodeStands before.node n → SetStands lent (at_rest n.station.set.set))
     → ((x : Waiting) → SetStands lent x → P (held_by x.untold x.set.ends)) → P (ends_here at w)
 looks c w at before lent P h t here rests says =
-    let place = at_place c.left.nodes w.nodes at before h t.trace.nodes in
+    let place = at_place c.left.members w.nodes w.mails at before h t.trace.members in
     let n : NodeState = place.placed.state in
-    let stands : NodeStands before n = subst (λ k. NodeStands k n) (sym here) place.stands in
+    let stands : NodeStands before.node n = subst (λ (m : Member). NodeStands m.node n) (sym here) place.stands in
     subst (λ o. P (ends_of_placed o)) (sym place.is_in) (says (at_rest n.station.set.set) (rests n stands))
 
-pub looks_none : (c : Course) (w : World) (at : ℕ) (P : List Holder → Type 0) → length c.left.nodes ≤ at → Stands c w → P [] → P (ends_here at w)
-looks_none c w at P h t none = subst (λ o. P (ends_of_placed o)) (sym (past_place c.left.nodes w.nodes at h t.trace.nodes)) none
+pub looks_none : (c : Course) (w : World) (at : ℕ) (P : List Holder → Type 0) → length c.left.members ≤ at → Stands c w → P [] → P (ends_here at w)
+looks_none c w at P h t none = subst (λ o. P (ends_of_placed o)) (sym (past_place c w at h t)) none
 
 -- ---- an end that is lent
 
@@ -102,7 +103,7 @@ dest_when o asked up e f =
 
 -- ---- an end of the agent of the node of a number
 
-pub agents_is : (c : Course) (w : World) (number at id : ℕ) (keeps held : Bool) → at ≡ position_or_len (has_number number) c.left.declared → Stands c w
+pub agents_is : (c : Course) (w : World) (number at id : ℕ) (keeps held : Bool) → at ≡ position_or_len (is_member number) c.left.members → Stands c w
     → keeps ≡ is_some (mail_in at w.mails) → held ≡ is_some (facts_at (end_of id (ends_here at w))) → (keeps && held) ≡ is_agents number id w
 agents_is c w number at id keeps held place t e f =
     ap (λ b. b && held) e

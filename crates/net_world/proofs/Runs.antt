@@ -61,7 +61,7 @@ with_air c air = record c { left = record c.left { air = air } }
 pub same_air : (c : Course) (air : List Aired) (w : World) → Stands c w → air ≡ c.left.air → Stands (with_air c air) w
 same_air c air w t e =
     record {
-      trace = record { told = t.trace.told; air = e ∙ t.trace.air; declared = t.trace.declared; nodes = t.trace.nodes; mails = t.trace.mails; ends = t.trace.ends; allowance = t.trace.allowance };
+      trace = record { told = t.trace.told; air = e ∙ t.trace.air; members = t.trace.members; ends = t.trace.ends; allowance = t.trace.allowance };
       channels = t.channels;
       now = t.now;
     }
@@ -72,9 +72,7 @@ settled_air c air at e = λ w t.
       trace = record {
         told = t.trace.told;
         air = e ∙ ap (settled_at at) t.trace.air;
-        declared = t.trace.declared;
-        nodes = t.trace.nodes;
-        mails = t.trace.mails;
+        members = t.trace.members;
         ends = t.trace.ends;
         allowance = t.trace.allowance;
       };

@@ -16,7 +16,7 @@ use Rattle.node_mail.specs.declared.heard.Heard.{Heard}
 use Rattle.node_mail.specs.declared.heard.Heard.TheVariants as hearing
 use Rattle.node_mail.specs.declared.post_refusal.PostRefusal.{PostRefusal}
 use Rattle.node_mail.specs.declared.post_refusal.PostRefusal.TheVariants as refusal
-use Rattle.node_mail.specs.Lists.{Letter, Lists, answer_to, hear_at, hear_step, heard_of, is_queued_for, post_at, post_step, posted_by, text_of, IsPostAnswer, StoreView, number_and_dest, octets_in}
+use Rattle.node_mail.specs.Lists.{Letter, Lists, answer_to, hear_at, hear_step, heard_of, is_queued_for, post_at, post_step, posted_by, text_of, IsPostAnswer, number_and_dest, octets_in}
 use Rattle.node_mail.specs.Wires.{Carries, Receipt, Wire, wire_at, wire_octets}
 use Rattle.net_model.specs.declared.events.Event as code
 use Rattle.net_model.specs.declared.posting.Posting.TheVariants as posting
@@ -32,13 +32,16 @@ use Rattle.net_model.specs.Refused.{of_post, refusal_events}
 use Rattle.net_world.specs.Running.{Course, GoesOn, Runs, Stands, Stops}
 use Rattle.net_model.specs.Answers.{message_in}
 use Rattle.net_world.specs.Traces.{IsRefusal}
-use Rattle.net_model.specs.Standing.{MailsStand}
+use Rattle.net_model.specs.Standing.{MembersStand}
+use Rattle.net_model.specs.Starting.{Placed}
+use Rattle.net_model.specs.declared.members.Member.{Member}
 use Rattle.net_model.specs.World as worlds
 use Rattle.net_model.specs.World.{World, answer, put, tell}
 use Rattle.net_model.proofs.Continuing.{offer_by, take_then, took_by}
 use Rattle.net_world.proofs.Growing.{grown}
 use Rattle.net_world.proofs.MailTexts.{read_long}
 use Rattle.net_model.proofs.MailWalks.{offer_at_leads, offers_lead, put_mails, reach_mails, take_at_leads, takes_lead, took_leads}
+use Rattle.net_world.proofs.Placing.{with_members}
 use Rattle.net_world.proofs.Runs.{goes_as, refused_still, runs_as}
 
 -- ---- at an end of an agent that alone is told
@@ -56,23 +59,20 @@ others_run old new line node end first done r is runs =
 
 -- ---- the mail changes, and nothing else
 
-abbrev pub with_stores : Course → List (Option StoreView) → Course
-with_stores c stores = record c { left = record c.left { mails = stores } }
+pub stores_as : {stores old : List Member} (ps : List Placed) (ls : List (Option Lists)) → stores ≡ old → MembersStand old ps ls → MembersStand stores ps ls
+stores_as ps ls e m = subst (λ (ms : List Member). MembersStand ms ps ls) (sym e) m
 
-pub stores_as : {stores old : List (Option StoreView)} (ls : List (Option Lists)) → stores ≡ old → MailsStand old ls → MailsStand stores ls
-stores_as ls e m = subst (λ (vs : List (Option StoreView)). MailsStand vs ls) (sym e) m
-
-pub mailed : (c : Course) (w : World) (stores : List (Option StoreView)) (ls : List (Option Lists)) → Stands c w → MailsStand stores ls
-    → Stands (with_stores c stores) (record w { mails = ls })
+pub mailed : (c : Course) (w : World) (stores : List Member) (ls : List (Option Lists)) → Stands c w → MembersStand stores w.nodes ls
+    → Stands (with_members c stores) (record w { mails = ls })
 mailed c w stores ls t m = record {
-  trace = record { told = t.trace.told; air = t.trace.air; declared = t.trace.declared; nodes = t.trace.nodes; mails = m; ends = t.trace.ends; allowance = t.trace.allowance };
+  trace = record { told = t.trace.told; air = t.trace.air; members = m; ends = t.trace.ends; allowance = t.trace.allowance };
   channels = t.channels;
   now = t.now;
 }
 
-pub mailed_same : (c : Course) (w : World) (stores : List (Option StoreView)) → Stands c w → MailsStand stores w.mails → Stands (with_stores c stores) w
+pub mailed_same : (c : Course) (w : World) (stores : List Member) → Stands c w → MembersStand stores w.nodes w.mails → Stands (with_members c stores) w
 mailed_same c w stores t m = record {
-  trace = record { told = t.trace.told; air = t.trace.air; declared = t.trace.declared; nodes = t.trace.nodes; mails = m; ends = t.trace.ends; allowance = t.trace.allowance };
+  trace = record { told = t.trace.told; air = t.trace.air; members = m; ends = t.trace.ends; allowance = t.trace.allowance };
   channels = t.channels;
   now = t.now;
 }
@@ -183,30 +183,30 @@ heard_some line node at id octets from heard (Some s) a e h =
     (sym (told_len node from s octets (wire_at octets) refl)))
 
 -- where no mail is kept nothing is heard
-unheard_case : (stores : List (Option StoreView)) (ls : List (Option Lists)) (from : Callsign) (octets : List ℕ) (at : ℕ) (o : Option Lists) → mail_in at ls ≡ o → HearsAt None o from octets
-    → MailsStand stores (heard_at at from octets ls) → MailsStand stores ls
-unheard_case stores ls from octets at None e h m = subst (λ (o : Option Lists). MailsStand stores (change_mail at (λ (x : Lists). hear_step x from octets) o ls)) e m
-unheard_case stores ls from octets at (Some s) e h m = absurd (cc)
+unheard_case : (stores : List Member) (ps : List Placed) (ls : List (Option Lists)) (from : Callsign) (octets : List ℕ) (at : ℕ) (o : Option Lists) → mail_in at ls ≡ o → HearsAt None o from octets
+    → MembersStand stores ps (heard_at at from octets ls) → MembersStand stores ps ls
+unheard_case stores ps ls from octets at None e h m = subst (λ (o : Option Lists). MembersStand stores ps (change_mail at (λ (x : Lists). hear_step x from octets) o ls)) e m
+unheard_case stores ps ls from octets at (Some s) e h m = absurd (cc)
 
-pub unheard : (c : Course) (w : World) (stores : List (Option StoreView)) (from : Callsign) (octets : List ℕ) (at : ℕ) → Stands c w → HearsAt None (mail_in at w.mails) from octets
-    → MailsStand stores (heard_at at from octets w.mails) → Stands (with_stores c stores) w
-unheard c w stores from octets at t h m = mailed_same c w stores t (unheard_case stores w.mails from octets at (mail_in at w.mails) refl h m)
+pub unheard : (c : Course) (w : World) (stores : List Member) (from : Callsign) (octets : List ℕ) (at : ℕ) → Stands c w → HearsAt None (mail_in at w.mails) from octets
+    → MembersStand stores w.nodes (heard_at at from octets w.mails) → Stands (with_members c stores) w
+unheard c w stores from octets at t h m = mailed_same c w stores t (unheard_case stores w.nodes w.mails from octets at (mail_in at w.mails) refl h m)
 
-module _ (line node at id : ℕ) (octets : List ℕ) (from : Callsign) (heard : Heard) (old new : Course) (before after : List code.Event) (stores : List (Option StoreView)) where
-  pub hearing_runs : (r : Result (Unit {0}) ReplayRefusal) → ((ls : List (Option Lists)) → MailsStand old.left.mails ls → HearsAt (Some heard) (mail_in at ls) from octets)
-      → ((ls : List (Option Lists)) → MailsStand old.left.mails ls → MailsStand stores (heard_at at from octets ls))
+module _ (line node at id : ℕ) (octets : List ℕ) (from : Callsign) (heard : Heard) (old new : Course) (before after : List code.Event) (stores : List Member) where
+  pub hearing_runs : (r : Result (Unit {0}) ReplayRefusal) → ((ps : List Placed) (ls : List (Option Lists)) → MembersStand old.left.members ps ls → HearsAt (Some heard) (mail_in at ls) from octets)
+      → ((ps : List Placed) (ls : List (Option Lists)) → MembersStand old.left.members ps ls → MembersStand stores ps (heard_at at from octets ls))
       → map event_of after ≡ map event_of before ++ heard_events node from (length octets - 16) heard
-      → Runs (with_stores old stores) new (write_answer_to line at id (answer_to heard)) r
+      → Runs (with_members old stores) new (write_answer_to line at id (answer_to heard)) r
       → AgentRuns old before new after (λ a. heard_by line node at id octets (Some from) (mail_at at a.world) a) r
   hearing_runs (Ok done) says goes noted runs = λ a t.
       let v : World = record a.world { mails = heard_at at from octets a.world.mails } in
-      let mid = mailed old a.world stores (heard_at at from octets a.world.mails) t.world (goes a.world.mails t.world.trace.mails) in
-      subst (λ (b : Agent). AgentStands new after b) (heard_some line node at id octets from heard (mail_at at a.world) a refl (says a.world.mails t.world.trace.mails))
+      let mid = mailed old a.world stores (heard_at at from octets a.world.mails) t.world (goes a.world.nodes a.world.mails t.world.trace.members) in
+      subst (λ (b : Agent). AgentStands new after b) (heard_some line node at id octets from heard (mail_at at a.world) a refl (says a.world.nodes a.world.mails t.world.trace.members))
       (record { world = runs v mid; answers = noted ∙ ap (λ es. es ++ heard_events node from (length octets - 16) heard) t.answers })
   hearing_runs (Err e) says goes noted runs = λ a t.
       let v : World = record a.world { mails = heard_at at from octets a.world.mails } in
-      let mid = mailed old a.world stores (heard_at at from octets a.world.mails) t.world (goes a.world.mails t.world.trace.mails) in
-      subst (λ (b : Agent). IsRefusal e (length b.world.air)) (heard_some line node at id octets from heard (mail_at at a.world) a refl (says a.world.mails t.world.trace.mails)) (runs v mid)
+      let mid = mailed old a.world stores (heard_at at from octets a.world.mails) t.world (goes a.world.nodes a.world.mails t.world.trace.members) in
+      subst (λ (b : Agent). IsRefusal e (length b.world.air)) (heard_some line node at id octets from heard (mail_at at a.world) a refl (says a.world.nodes a.world.mails t.world.trace.members)) (runs v mid)
 
 -- ---- what waits at an end is taken, one message after another
 

@@ -4,12 +4,13 @@ use Rattle.circuit_l4.specs.declared.facts.EndFacts.{EndFacts}
 use Rattle.circuit_table.specs.CircuitSets.{facts_at}
 use Rattle.circuit_table.specs.Sets.{end_of}
 use Rattle.radio_base.specs.declared.modulus.LinkModulus.{LinkModulus}
-use Rattle.node_core.specs.Standing.{Kept, entries_left, frames_left}
+use Rattle.node_core.specs.Standing.{entries_left, frames_left}
 use Rattle.node_model.specs.States.{NodeState, fetch_entry, fetch_frame, frames}
 use Rattle.node_model.specs.States as states
 use Rattle.link_table.specs.declared.written.Written.{Written}
 use Rattle.network_file.specs.declared.plan.channels.Channel.{Channel}
 use Rattle.net_model.specs.declared.air.Aired.{Aired}
+use Rattle.net_model.specs.declared.members.Member.{Member}
 use Rattle.net_world.specs.declared.world.World as code
 use Rattle.net_model.specs.declared.refusals.ReplayRefusal.{ReplayRefusal}
 use Rattle.net_model.specs.Events.{Event, Entry}
@@ -28,9 +29,7 @@ pub record Course : Type 0 where
 abbrev pub course : code.World → Course
 course w = record {
   left = record {
-    declared = w.declared.items;
-    nodes = w.nodes.items;
-    mails = w.mails.items;
+    members = w.members.items;
     air = w.air;
     ends = w.ends;
     events = w.events.items;
@@ -79,15 +78,15 @@ first_frame None = None
 first_frame (Some p) = slice_get (frames p.state.station) 0
 
 -- how much is left to be fetched
-abbrev pub entries_at : ℕ → List Kept → ℕ
+abbrev pub entries_at : ℕ → List Member → ℕ
 entries_at at [] = 0
-entries_at zero (n ∷ nodes) = entries_left n
-entries_at (suc at) (n ∷ nodes) = entries_at at nodes
+entries_at zero (m ∷ members) = entries_left m.node
+entries_at (suc at) (m ∷ members) = entries_at at members
 
-abbrev pub frames_at : ℕ → List Kept → ℕ
+abbrev pub frames_at : ℕ → List Member → ℕ
 frames_at at [] = 0
-frames_at zero (n ∷ nodes) = frames_left n
-frames_at (suc at) (n ∷ nodes) = frames_at at nodes
+frames_at zero (m ∷ members) = frames_left m.node
+frames_at (suc at) (m ∷ members) = frames_at at members
 
 -- an entry of the node at a place
 abbrev pub entry_events : states.Entry → Option Placed → List Event

@@ -9,9 +9,7 @@ use Rattle.net_world.specs.declared.trace.Trace.{Trace}
 
 abbrev pub left_of : Trace → Left
 left_of t = record {
-  declared = t.declared.items;
-  nodes = t.nodes.items;
-  mails = t.mails.items;
+  members = t.members.items;
   air = t.air;
   ends = t.ends;
   events = t.events.items;

@@ -157,13 +157,10 @@ impl World<'_> {
         ensures { IfOk result (λ table. (w : worlds.World) → Stands (course self.now) w
             → table ≡ option_map lines.table_of (slice_get w.nodes at)) }
     {
-        if at < self.nodes.len() {
-            if at < self.declared.len() {
-                let table = shown(self.alloc, &self.declared[at], &self.nodes[at])?;
-                Ok(Some(table))
-            } else {
-                Ok(None)
-            }
+        if at < self.members.len() {
+            let member = &self.members[at];
+            let table = shown(self.alloc, &member.declared, &member.node)?;
+            Ok(Some(table))
         } else {
             Ok(None)
         }
@@ -180,7 +177,7 @@ impl World<'_> {
     fn tick_nodes(&mut self, line: u32) -> Result<(), ReplayRefusal>
         ensures { Runs (course self.old) (course self.new) (λ w. lines.tick_from line 0 (length w.nodes) w) result }
     {
-        for at in 0..self.nodes.len() {
+        for at in 0..self.members.len() {
             self.tick_node(line, at)?;
         }
         Ok(())

@@ -34,7 +34,7 @@ impl World<'_> {
             (mailing.post line node to.now dest.now text.now)) }
     {
         let at = self.place_of(node);
-        match post_at(&mut self.mails, at, to, dest, text) {
+        match post_at(&mut self.members, at, to, dest, text) {
             Posting::NoMail => self.refuse(line, LineRefusal::NoMail),
             Posting::Posted(number) => {
                 self.tell(line, Event::Posted { node, number })?;
@@ -61,7 +61,7 @@ impl World<'_> {
         ensures { (w : worlds.World) → Stands (course self.now) w → result ≡ mailing.is_agents number end w }
     {
         let at = self.place_of(number);
-        keeps_mail(&self.mails, at) && self.end_at(at, end as u64).is_some()
+        keeps_mail(&self.members, at) && self.end_at(at, end as u64).is_some()
     }
 
     /// A turn of the agent of the node of that number. It takes in what waits at its ends, and offers what is queued.
@@ -69,7 +69,7 @@ impl World<'_> {
         ensures { Runs (course self.old) (course self.new) (mailing.mail line node) result }
     {
         let at = self.place_of(node);
-        if keeps_mail(&self.mails, at) {
+        if keeps_mail(&self.members, at) {
             self.agent_turn(LineAt { line, node, at })
         } else {
             self.refuse(line, LineRefusal::NoMail)?;

@@ -13,7 +13,7 @@ ghost use Rattle.net_model.specs.Lines.{kiss_bytes};
 ghost use Rattle.net_world.specs.Running as running;
 ghost use Rattle.net_world.specs.Running.{GoesOn, Runs, Stands, course};
 ghost use Rattle.net_model.specs.Answers.{IsAnswerTo};
-ghost use Rattle.net_model.specs.Starting.{has_number};
+ghost use Rattle.net_model.specs.Standing.{is_member};
 ghost use Rattle.net_model.specs.World as worlds;
 
 use crate::world::World;
@@ -30,9 +30,9 @@ use radio_base::{LinkModulus, NoMemory};
 impl World<'_> {
     /// The place of the node of that number, or how many nodes there are.
     pub fn place_of(&self, number: u8) -> usize
-        ensures { result ≡ position_or_len (has_number number) self.now.declared.items }
+        ensures { result ≡ position_or_len (is_member number) self.now.members.items }
     {
-        place_of(&self.declared, number)
+        place_of(&self.members, number)
     }
 
     /// The frame at a place in the air reaches the node at a place, and its entries are told. Its frames stay with it.
@@ -43,8 +43,10 @@ impl World<'_> {
     {
         match self.air.frames().get(frame_at) {
             Some(frame) => {
-                if at < self.nodes.len() {
-                    self.nodes[at].kiss_frame(frame.octets.as_slice(), self.time)?;
+                if at < self.members.len() {
+                    self.members[at]
+                        .node
+                        .kiss_frame(frame.octets.as_slice(), self.time)?;
                     self.tell_entries(line, at)?;
                     Ok(())
                 } else {
@@ -68,9 +70,11 @@ impl World<'_> {
         ensures { OnOk result (GoesOn (course self.old) (course self.new)
             (worlds.reach line at (worlds.Bytes (kiss_bytes (broadcast_octets call.now (view nodes.now)))))) }
     {
-        if at < self.nodes.len() {
+        if at < self.members.len() {
             let octets = broadcast_frame(call, nodes);
-            self.nodes[at].kiss_frame(octets.as_slice(), self.time)?;
+            self.members[at]
+                .node
+                .kiss_frame(octets.as_slice(), self.time)?;
             self.tell_entries(line, at)?;
             Ok(())
         } else {
@@ -82,8 +86,8 @@ impl World<'_> {
     pub fn time_reaches(&mut self, line: u32, at: usize) -> Result<(), NoMemory>
         ensures { OnOk result (GoesOn (course self.old) (course self.new) (worlds.reach line at worlds.Time)) }
     {
-        if at < self.nodes.len() {
-            self.nodes[at].tick(self.time)?;
+        if at < self.members.len() {
+            self.members[at].node.tick(self.time)?;
             self.tell_entries(line, at)?;
             Ok(())
         } else {
@@ -99,7 +103,7 @@ impl World<'_> {
         ensures answer { IfOk result (λ answer. (w : worlds.World) → Stands (course self.old) w
             → IsAnswerTo answer (worlds.answer at (act_of act.now) w)) }
     {
-        if at < self.nodes.len() {
+        if at < self.members.len() {
             let answer = self.act_at(at, act)?;
             self.tell_entries(line, at)?;
             Ok(answer)
@@ -110,13 +114,13 @@ impl World<'_> {
 
     /// A user's act reaches the node at a place.
     fn act_at(&mut self, at: usize, act: &UserAct) -> Result<Answer, NoMemory>
-        requires { at < length self.old.nodes.items }
+        requires { at < length self.old.members.items }
         ensures goes { OnOk result ((w : worlds.World) → Stands (course self.old) w
             → Stands (course self.new) (running.change at (worlds.after w.now (worlds.Act (act_of act.now))) w)) }
         ensures answer { IfOk result (λ answer. (w : worlds.World) → Stands (course self.old) w
             → IsAnswerTo answer (worlds.answer at (act_of act.now) w)) }
     {
-        let outcome = self.nodes[at].act(act, self.time);
+        let outcome = self.members[at].node.act(act, self.time);
         let answer = answer_of(outcome)?;
         Ok(answer)
     }
@@ -138,8 +142,8 @@ impl World<'_> {
         ensures { (w : worlds.World) → Stands (course self.now) w
             → result ≡ is_some (running.first_entry (slice_get w.nodes at)) }
     {
-        if at < self.nodes.len() {
-            self.nodes[at].has_entries()
+        if at < self.members.len() {
+            self.members[at].node.has_entries()
         } else {
             false
         }
@@ -172,12 +176,12 @@ impl World<'_> {
         ensures { IfOk result (λ event. (w : worlds.World) → Stands (course self.now) w
             → running.IsFirst (option_map event_of event) (slice_get w.nodes at)) }
     {
-        if at >= self.nodes.len() || at >= self.declared.len() {
+        if at >= self.members.len() {
             return Ok(None);
         }
-        let node = self.declared[at].node;
-        match self.nodes[at].first_entry() {
-            Some(entry) => datagram_event(self.alloc, node, entry),
+        let member = &self.members[at];
+        match member.node.first_entry() {
+            Some(entry) => datagram_event(self.alloc, member.declared.node, entry),
             None => Ok(None),
         }
     }
@@ -192,7 +196,7 @@ impl World<'_> {
         ensures none { IfOk result (λ told. told ≡ false
             → GoesOn (course self.old) (course self.new) (running.all_entries line at)) }
         ensures left { IfOk result (λ told. told ≡ true
-            → running.entries_at at self.new.nodes.items < running.entries_at at self.old.nodes.items) }
+            → running.entries_at at self.new.members.items < running.entries_at at self.old.members.items) }
     {
         match self.next_entry(at) {
             Some(entry) => {
@@ -208,11 +212,11 @@ impl World<'_> {
         ensures answer { (w : worlds.World) → Stands (course self.old) w
             → option_map entry_of result ≡ running.first_entry (slice_get w.nodes at) }
         ensures goes { GoesOn (course self.old) (course self.new) (running.change at running.fetched_entry) }
-        ensures left { IfSome result (λ _. running.entries_at at self.new.nodes.items
-            < running.entries_at at self.old.nodes.items) }
+        ensures left { IfSome result (λ _. running.entries_at at self.new.members.items
+            < running.entries_at at self.old.members.items) }
     {
-        if at < self.nodes.len() {
-            self.nodes[at].trace_entry()
+        if at < self.members.len() {
+            self.members[at].node.trace_entry()
         } else {
             None
         }
@@ -223,11 +227,11 @@ impl World<'_> {
         ensures goes { OnOk result ((w : worlds.World) → Stands (course self.old) w
             → Stands (course self.new) (worlds.tell line
             (running.entry_events (entry_of entry) (slice_get w.nodes at)) w)) }
-        ensures nodes { self.new.nodes.items ≡ self.old.nodes.items }
+        ensures members { self.new.members.items ≡ self.old.members.items }
     {
-        match self.declared.get(at) {
-            Some(declared) => {
-                let event = entry_event(self.alloc, declared.node, entry)?;
+        match self.members.get(at) {
+            Some(member) => {
+                let event = entry_event(self.alloc, member.declared.node, entry)?;
                 self.tell(line, event)?;
                 Ok(())
             }
@@ -240,7 +244,7 @@ impl World<'_> {
     pub fn tell(&mut self, line: u32, event: Event) -> Result<(), NoMemory>
         ensures goes { OnOk result (GoesOn (course self.old) (course self.new)
             (worlds.tell line (event_of event ∷ []))) }
-        ensures nodes { self.new.nodes.items ≡ self.old.nodes.items }
+        ensures members { self.new.members.items ≡ self.old.members.items }
         ensures air { self.new.air ≡ self.old.air }
     {
         self.ends.note(&event)?;
@@ -259,8 +263,8 @@ impl World<'_> {
     ) -> Result<(), ReplayRefusal>
         ensures { Runs (course self.old) (course self.new) (worlds.put line at came) result }
     {
-        if at < self.declared.len() {
-            let node = self.declared[at].node;
+        if at < self.members.len() {
+            let node = self.members[at].declared.node;
             let on_air = is_on_air(self.channels, node);
             self.put_frames(line, at, node, on_air, came)
         } else {
@@ -289,11 +293,11 @@ impl World<'_> {
         ensures answer { (w : worlds.World) → Stands (course self.old) w
             → result ≡ running.first_frame (slice_get w.nodes at) }
         ensures goes { GoesOn (course self.old) (course self.new) (running.change at running.fetched_frame) }
-        ensures left { IfSome result (λ _. running.frames_at at self.new.nodes.items
-            < running.frames_at at self.old.nodes.items) }
+        ensures left { IfSome result (λ _. running.frames_at at self.new.members.items
+            < running.frames_at at self.old.members.items) }
     {
-        if at < self.nodes.len() {
-            self.nodes[at].next_frame()
+        if at < self.members.len() {
+            self.members[at].node.next_frame()
         } else {
             None
         }
@@ -310,7 +314,7 @@ impl World<'_> {
     ) -> Result<(), ReplayRefusal>
         ensures runs { Runs (course self.old) (course self.new)
             (running.airs line (running.aired_one on_air node came written)) result }
-        ensures nodes { self.new.nodes.items ≡ self.old.nodes.items }
+        ensures members { self.new.members.items ≡ self.old.members.items }
     {
         if on_air {
             let modulus = written.modulus.unwrap_or(came);

@@ -1,5 +1,5 @@
 //! Restarts of nodes. Called by `doing`.
-ghost use Rattle.std.specs.Prelude.{◌≡◌, ◌≤◌, ◌<◌, ℕ, OnOk, length, slice_get, slice_index_or};
+ghost use Rattle.std.specs.Prelude.{◌≡◌, ◌≤◌, ◌<◌, ℕ, OnOk, length, slice_get};
 ghost use Rattle.circuit_table.specs.Pairs.{IsPair};
 ghost use Rattle.net_model.specs.Lines as lines;
 ghost use Rattle.net_world.specs.Running as running;
@@ -9,7 +9,7 @@ ghost use Rattle.net_model.specs.World as worlds;
 use crate::world::World;
 use circuit_l4::{EndFacts, Pair};
 use net_model::{Event, LostEnd, started};
-use network_file::{Declaration, Network};
+use network_file::Network;
 use radio_base::{COUNT_MAX, NoMemory};
 
 impl World<'_> {
@@ -26,13 +26,8 @@ impl World<'_> {
             (lines.restart network.now line number pair)) }
     {
         let at = self.place_of(number);
-        if at < self.nodes.len() {
-            if at < self.declared.len() {
-                let declared = self.declared[at];
-                self.restart_at(network, line, at, &declared, pair)
-            } else {
-                Ok(())
-            }
+        if at < self.members.len() {
+            self.restart_at(network, line, at, pair)
         } else {
             Ok(())
         }
@@ -43,15 +38,14 @@ impl World<'_> {
         network: &Network,
         line: u32,
         at: usize,
-        declared: &Declaration,
         pair: Pair,
     ) -> Result<(), NoMemory>
         requires pair { IsPair pair }
-        requires within { at < length self.old.nodes.items }
-        requires number { declared.now ≡ slice_index_or self.old.declared.items at declared.now }
+        requires within { at < length self.old.members.items }
         ensures { OnOk result (GoesOn (course self.old) (course self.new)
             (worlds.at_node at (lines.restarts network.now line at pair))) }
     {
+        let declared = self.members[at].declared;
         let node = declared.node;
         let made = self.ends.of_node(node).len() as u64;
         if made > COUNT_MAX {
@@ -59,8 +53,8 @@ impl World<'_> {
         }
         self.tell(line, Event::Restarted { node, pair })?;
         self.tell_losses(line, at, node, made)?;
-        let anew = started(self.alloc, network, declared, pair, made + 1)?;
-        self.nodes[at] = anew;
+        let anew = started(self.alloc, network, &declared, pair, made + 1)?;
+        self.members[at].node = anew;
         Ok(())
     }
 
@@ -69,7 +63,7 @@ impl World<'_> {
         requires { made ≤ 4611686018427387904 }
         ensures goes { OnOk result (GoesOn (course self.old) (course self.new)
             (λ w. worlds.tell line (running.losses_at node made (slice_get w.nodes at)) w)) }
-        ensures nodes { self.new.nodes.items ≡ self.old.nodes.items }
+        ensures members { self.new.members.items ≡ self.old.members.items }
     {
         for id in 1..made + 1 {
             self.tell_loss(line, at, node, id)?;
@@ -81,7 +75,7 @@ impl World<'_> {
     fn tell_loss(&mut self, line: u32, at: usize, node: u8, end: u64) -> Result<(), NoMemory>
         ensures goes { OnOk result (GoesOn (course self.old) (course self.new)
             (λ w. worlds.tell line (running.loss_at node end (slice_get w.nodes at)) w)) }
-        ensures nodes { self.new.nodes.items ≡ self.old.nodes.items }
+        ensures members { self.new.members.items ≡ self.old.members.items }
     {
         match self.facts_at(at, end) {
             Some(facts) => {
@@ -97,8 +91,8 @@ impl World<'_> {
         ensures { (w : worlds.World) → Stands (course self.now) w
             → result ≡ running.facts_of end (slice_get w.nodes at) }
     {
-        if at < self.nodes.len() {
-            self.nodes[at].facts(end)
+        if at < self.members.len() {
+            self.members[at].node.facts(end)
         } else {
             None
         }

@@ -2,18 +2,13 @@
 
 use crate::world::World;
 use circuit_verdict::Allowance;
-use net_model::{Air, Aired, EndRecord, Ends, NumberedEvent};
-use network_file::Declaration;
-use node_core::Node;
-use node_mail::Store;
+use net_model::{Air, Aired, EndRecord, Ends, Member, NumberedEvent};
 
 /// What is left of a replay: the nodes by number, the frames in the air, the ends that each node ever made, and the events in
 /// their order.
 #[derive(Drop)]
 pub struct Trace {
-    declared: Vec<Declaration>,
-    nodes: Vec<Node>,
-    mails: Vec<Option<Store>>,
+    members: Vec<Member>,
     air: Air,
     ends: Ends,
     events: Vec<NumberedEvent>,
@@ -32,9 +27,7 @@ impl Trace {
         ensures few { length world.entry.air ≤ most_frames }
     {
         Trace {
-            declared: world.declared,
-            nodes: world.nodes,
-            mails: world.mails,
+            members: world.members,
             air: world.air,
             ends: world.ends,
             events: world.events,
@@ -42,25 +35,11 @@ impl Trace {
         }
     }
 
-    /// The nodes as they were left, by number.
-    pub fn nodes(&self) -> &[Node]
-        ensures { result.now ≡ (left_of self.now).nodes }
+    /// The nodes as they were left, by number, each as it is declared and with its mail.
+    pub fn members(&self) -> &[Member]
+        ensures { result.now ≡ (left_of self.now).members }
     {
-        &self.nodes
-    }
-
-    /// The mail of each node as it was left, in the same order; none where a node keeps no mail.
-    pub fn mails(&self) -> &[Option<Store>]
-        ensures { result.now ≡ (left_of self.now).mails }
-    {
-        &self.mails
-    }
-
-    /// The declarations of the nodes, in the same order.
-    pub fn declared(&self) -> &[Declaration]
-        ensures { result.now ≡ (left_of self.now).declared }
-    {
-        &self.declared
+        &self.members
     }
 
     /// The frames in the air, in the order in which they were put there.

@@ -6,24 +6,19 @@ ghost use Rattle.net_world.specs.Running.{Stands, course};
 ghost use Rattle.net_model.specs.World as worlds;
 
 use circuit_verdict::Allowance;
-use net_model::{Air, Ends, NumberedEvent, allowance_of, declared_by_number, new_mails, nodes_of};
-use network_file::{Channel, Declaration, Network};
-use node_core::Node;
-use node_mail::Store;
+use net_model::{Air, Ends, Member, NumberedEvent, allowance_of, declared_by_number, members_of};
+use network_file::{Channel, Network};
 use radio_base::{Moment, NoMemory};
 use std::alloc::Global;
 
-/// A replay while it runs: the channels, the allowance, the nodes by number and their mail, the time, the frames in the air, and the events so far.
+/// A replay while it runs: the channels, the allowance, the nodes by number, the time, the frames in the air, and the events so far.
 #[derive(Drop)]
 pub struct World<'a> {
     pub alloc: Global,
     pub channels: &'a [Channel],
     /// How many overtakers are too many.
     pub allowance: Allowance,
-    pub declared: Vec<Declaration>,
-    pub nodes: Vec<Node>,
-    /// The mail of each node, by place; none where a node keeps no mail.
-    pub mails: Vec<Option<Store>>,
+    pub members: Vec<Member>,
     pub time: Moment,
     pub air: Air,
     pub ends: Ends,
@@ -36,15 +31,12 @@ pub fn start(alloc: Global, network: &Network) -> Result<World<'_>, NoMemory>
     ensures starts { IfOk result (λ _. AreStarts (first_sets network.now)) }
 {
     let declared = declared_by_number(alloc, network)?;
-    let nodes = nodes_of(alloc, network, &declared)?;
-    let mails = new_mails(alloc, network, &declared)?;
+    let members = members_of(alloc, network, &declared)?;
     Ok(World {
         alloc,
         channels: network.channels(),
         allowance: allowance_of(network.version()),
-        declared,
-        nodes,
-        mails,
+        members,
         time: Moment(0),
         air: Air::new(alloc),
         ends: Ends::new(alloc)?,

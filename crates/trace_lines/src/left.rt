@@ -3,10 +3,9 @@ ghost use Rattle.std.specs.Prelude.{◌≡◌, ◌++◌, List, Option, OnOk, IfO
 ghost use Rattle.std.specs.Fmt.{decimal};
 ghost use Rattle.node_core.specs.Standing.{NodeStands};
 ghost use Rattle.node_model.specs.States.{NodeState};
-ghost use Rattle.net_model.specs.Standing.{AreDeclared};
 ghost use Rattle.net_report.specs.Reporting.{ends_left};
 ghost use Rattle.net_model.specs.Starting.{Placed};
-ghost use Rattle.net_model.specs.Standing.{MailStands, MailsStand, StandFor};
+ghost use Rattle.net_model.specs.Standing.{MailStands, MembersStand};
 ghost use Rattle.net_world.specs.Traces.{left_of};
 ghost use Rattle.node_mail.specs.Lists.{Lists};
 ghost use Rattle.trace_lines.specs.Json.{fields_text, or_null};
@@ -17,12 +16,10 @@ use crate::lines::Lines;
 use crate::mails::write_left_mail;
 use ax_address::Call;
 use circuit_l4::EndFacts;
-use net_model::{EndRecord, Outcome, Table, shown};
+use net_model::{EndRecord, Member, Outcome, Table, shown};
 use net_report::phase_word;
 use net_world::Trace;
-use network_file::Declaration;
 use node_core::Node;
-use node_mail::Store;
 use radio_base::NoMemory;
 use route_table::Route;
 use std::alloc::{AllocError, Global};
@@ -38,46 +35,32 @@ struct EndName {
 /// Appends the tables and the ends of the nodes, by number.
 pub(crate) fn write_nodes(
     trace: &Trace,
-    declared: &[Declaration],
-    nodes: &[Node],
-    mails: &[Option<Store>],
+    members: &[Member],
     out: &mut Lines,
 ) -> Result<(), NoMemory>
-    ensures { OnOk result ((placed : List Placed) (kept : List (Option Lists)) → AreDeclared declared.now placed
-        → StandFor nodes.now placed → MailsStand mails.now kept
+    ensures { OnOk result ((placed : List Placed) (kept : List (Option Lists)) → MembersStand members.now placed kept
         → out.new ≡ out.old ++ left.nodes_trace (ends_left (left_of trace.now)) placed kept) }
 {
-    match declared {
+    match members {
         [] => Ok(()),
-        [first, others @ ..] => match nodes {
-            [] => Ok(()),
-            [node, more @ ..] => match mails {
-                [] => Ok(()),
-                [mail, left @ ..] => {
-                    write_node(trace, first, node, mail, out)?;
-                    write_nodes(trace, others, more, left, out)?;
-                    Ok(())
-                }
-            },
-        },
+        [first, others @ ..] => {
+            write_node(trace, first, out)?;
+            write_nodes(trace, others, out)?;
+            Ok(())
+        }
     }
 }
 
-fn write_node(
-    trace: &Trace,
-    declared: &Declaration,
-    node: &Node,
-    mail: &Option<Store>,
-    out: &mut Lines,
-) -> Result<(), NoMemory>
-    ensures { OnOk result ((p : Placed) (kept : Option Lists) → declared.now ≡ p.declared → NodeStands node.now p.state
-        → MailStands mail.now kept
+fn write_node(trace: &Trace, member: &Member, out: &mut Lines) -> Result<(), NoMemory>
+    ensures { OnOk result ((p : Placed) (kept : Option Lists) → member.now.declared ≡ p.declared
+        → NodeStands member.now.node p.state → MailStands member.now.mail kept
         → out.new ≡ out.old ++ left.kept_trace (ends_left (left_of trace.now)) p kept) }
 {
-    let table = shown(out.alloc(), declared, node)?;
+    let table = shown(out.alloc(), &member.declared, &member.node)?;
     write_table(&table, out)?;
-    write_ends(declared.node, trace.ends_of(declared.node), node, out)?;
-    write_left_mail(declared.node, mail, out)?;
+    let number = member.declared.node;
+    write_ends(number, trace.ends_of(number), &member.node, out)?;
+    write_left_mail(number, &member.mail, out)?;
     Ok(())
 }
 

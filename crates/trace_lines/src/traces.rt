@@ -42,13 +42,7 @@ pub fn trace_text(
     write_lines(file, &mut out)?;
     let marks = repeat_marks(alloc, network.instructions())?;
     write_events(&marks, trace.frames(), trace.events(), &mut out)?;
-    write_nodes(
-        trace,
-        trace.declared(),
-        trace.nodes(),
-        trace.mails(),
-        &mut out,
-    )?;
+    write_nodes(trace, trace.members(), &mut out)?;
     write_verdict(verdict.late, &mut out)?;
     write_cause(verdict.cause, &mut out)?;
     Ok(out.into_text())

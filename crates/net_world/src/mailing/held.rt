@@ -41,8 +41,8 @@ impl World<'_> {
         ensures { (w : worlds.World) → Stands (course self.now) w
             → result ≡ slice_get (sets.held_ids (ends_here at w)) nth }
     {
-        if at < self.nodes.len() {
-            self.nodes[at].circuits().held(nth)
+        if at < self.members.len() {
+            self.members[at].node.circuits().held(nth)
         } else {
             None
         }
@@ -53,8 +53,8 @@ impl World<'_> {
         ensures { (w : worlds.World) → Stands (course self.now) w
             → LentStands (option_copied result) (end_of id (ends_here at w)) }
     {
-        if at < self.nodes.len() {
-            self.nodes[at].circuits().end(id)
+        if at < self.members.len() {
+            self.members[at].node.circuits().end(id)
         } else {
             None
         }
@@ -65,8 +65,8 @@ impl World<'_> {
         ensures { (w : worlds.World) → Stands (course self.now) w
             → result ≡ sets.partner_at (end_of id (ends_here at w)) }
     {
-        if at < self.nodes.len() {
-            self.nodes[at].circuits().partner(id)
+        if at < self.members.len() {
+            self.members[at].node.circuits().partner(id)
         } else {
             None
         }
@@ -111,8 +111,12 @@ impl World<'_> {
         ensures { (w : worlds.World) → Stands (course self.now) w
             → result ≡ agents.is_requested (end_of id (ends_here at w)) }
     {
-        if at < self.nodes.len() {
-            self.nodes[at].circuits().requested(id).unwrap_or(false)
+        if at < self.members.len() {
+            self.members[at]
+                .node
+                .circuits()
+                .requested(id)
+                .unwrap_or(false)
         } else {
             false
         }

@@ -46,7 +46,7 @@ impl World<'_> {
         ensures { Runs (course self.old) (course self.new)
             (agents.offer_from here.line here.node here.at id dest.now last 0) result }
     {
-        let count = queued_count(&self.mails, here.at);
+        let count = queued_count(&self.members, here.at);
         for nth in 0..count {
             let is_refused = self.offer_nth(here, id, dest, last, nth)?;
             if is_refused {
@@ -72,7 +72,7 @@ impl World<'_> {
         ensures err { IfErr result (λ e. Stops (course self.old) e
             (agents.offer_from here.line here.node here.at id dest.now last nth)) }
     {
-        match queued_at(&self.mails, here.at, nth) {
+        match queued_at(&self.members, here.at, nth) {
             Some((number, to)) => {
                 if is_due(number, &to, dest, last) {
                     self.offer(here, id, number)
@@ -93,7 +93,7 @@ impl World<'_> {
         ensures err { IfErr result (λ e. (numbers : List ℕ)
             → Stops (course self.old) e (mailing.offer here.line here.node here.at id (number ∷ numbers))) }
     {
-        let message = wire_at(&self.mails, here.at, number);
+        let message = wire_at(&self.members, here.at, number);
         let is_written = self.write_if_taken(here, id, message.as_slice())?;
         if !is_written {
             return Ok(true);

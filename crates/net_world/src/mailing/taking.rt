@@ -106,7 +106,7 @@ impl World<'_> {
             (mailing.mail_at here.at a.world) a) result }
     {
         let mut out = Message::new();
-        let outcome = hear_at(&mut self.mails, here.at, from, message, &mut out)?;
+        let outcome = hear_at(&mut self.members, here.at, from, message, &mut out)?;
         match outcome {
             Some(heard) => {
                 self.note_heard(here.node, from, message.len(), &heard, answers)?;

@@ -4,9 +4,9 @@ use Rattle.net_model.proofs.Stores.{none_there, some_here}
 use Rattle.net_model.proofs.mails.queued_at.Goals as goal
 
 pub returns-in-Some : goal.returns-in-Some
-returns-in-Some c = λ ls h.
-    let r = some_here c.in-Some.store.now (mail_in c.args.at ls) (c.in-Some.ensures ls h) in
+returns-in-Some c = λ ps ls h.
+    let r = some_here c.in-Some.store.now (mail_in c.args.at ls) (c.in-Some.ensures ps ls h) in
     rw (r.there) (c.queued.ensures r.lists r.stands)
 
 pub returns-in-None : goal.returns-in-None
-returns-in-None c = λ ls h. rw (none_there (mail_in c.args.at ls) (c.in-None.ensures ls h)) refl
+returns-in-None c = λ ps ls h. rw (none_there (mail_in c.args.at ls) (c.in-None.ensures ps ls h)) refl

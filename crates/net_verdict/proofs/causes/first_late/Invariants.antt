@@ -9,4 +9,4 @@ use Rattle.net_verdict.proofs.causes.first_late.Given as goal
 
 abbrev pub invariant-loop-at : goal.invariant-loop-at
 invariant-loop-at l =
-    (a : Allowance) (nodes : List Placed) → AreDeclared l.declared nodes → HasTaken a l.fn.verdict [] → HasTaken a l.verdict (events_at nodes (map numbered_of (take l.at l.events)))
+    (a : Allowance) (nodes : List Placed) → AreDeclared l.members nodes → HasTaken a l.fn.verdict [] → HasTaken a l.verdict (events_at nodes (map numbered_of (take l.at l.events)))

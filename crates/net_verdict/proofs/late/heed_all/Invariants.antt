@@ -9,5 +9,5 @@ use Rattle.net_verdict.proofs.late.heed_all.Given as goal
 
 abbrev pub invariant-loop-numbered : goal.invariant-loop-numbered
 invariant-loop-numbered l =
-    (nodes : List Placed) (last : Verdict) → AreDeclared l.declared nodes → Heeds l.verdict last (events_at nodes (map numbered_of (drop l.numbered-index l.events)))
+    (nodes : List Placed) (last : Verdict) → AreDeclared l.members nodes → Heeds l.verdict last (events_at nodes (map numbered_of (drop l.numbered-index l.events)))
     → Heeds l.fn.verdict last (events_at nodes (map numbered_of l.events))

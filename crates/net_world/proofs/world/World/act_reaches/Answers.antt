@@ -16,7 +16,7 @@ returns-in_ok-tell_entries-clause-goes c = λ w t.
 pub returns-else-at-len : goal.returns-else-at-len
 returns-else-at-len c =
     let old = course c.args.self.now in
-    let h : length c.args.self.now.nodes.items ≤ c.args.at = omega (arith, c.if-at-len.false, c.len.ensures) in
+    let h : length c.args.self.now.members.items ≤ c.args.at = omega (arith, c.if-at-len.false, c.len.ensures) in
     record {
       goes = stays old c.args.line c.args.at (Act (act_of c.args.act.now)) h;
       answer = λ w t. (Done, no_answer old c.args.at (act_of c.args.act.now) w h t, refl);

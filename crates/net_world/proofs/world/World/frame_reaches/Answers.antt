@@ -10,7 +10,7 @@ use Rattle.net_world.proofs.world.World.frame_reaches.Goals as goal
 pub returns-in_ok-tell_entries-in-Some : goal.returns-in_ok-tell_entries-in-Some
 returns-in_ok-tell_entries-in-Some c f e =
     let old = course c.args.self.now in
-    let within : c.args.at < length c.args.self.now.nodes.items = omega (arith, c.if-at-len.true, c.len.ensures) in
+    let within : c.args.at < length c.args.self.now.members.items = omega (arith, c.if-at-len.true, c.len.ensures) in
     let h = c.in-Some.ensures.lookup in
     let is = found c.frames.result.now c.args.self.now.air c.args.frame_at c.in-Some.frame.now c.frames.ensures.value h.3.0 h.1 in
     let same : c.in-Some.frame.now ≡ f = cc (sym is ∙ e) in
@@ -21,7 +21,7 @@ returns-in_ok-tell_entries-in-Some c f e =
 
 pub returns-else-at-len : goal.returns-else-at-len
 returns-else-at-len c f e =
-    let past : length c.args.self.now.nodes.items ≤ c.args.at = omega (arith, c.if-at-len.false, c.len.ensures) in
+    let past : length c.args.self.now.members.items ≤ c.args.at = omega (arith, c.if-at-len.false, c.len.ensures) in
     stays (course c.args.self.now) c.args.line c.args.at (Bytes (kiss_bytes f.octets.items)) past
 
 pub returns-in-None : goal.returns-in-None

@@ -7,10 +7,10 @@ use Rattle.net_world.proofs.world.World.held_id.Goals as goal
 
 pub returns-then-at-len : goal.returns-then-at-len
 returns-then-at-len c = λ w t.
-    let h : c.args.at < length c.args.self.now.nodes.items = omega (arith, c.if-at-len.true, c.len.ensures) in
+    let h : c.args.at < length c.args.self.now.members.items = omega (arith, c.if-at-len.true, c.len.ensures) in
     looks (course c.args.self.now) w c.args.at c.index.result.now c.circuits.result.now (λ hs. c.held.result ≡ slice_get (held_ids hs) c.args.nth) h t c.index.ensures c.circuits.ensures.stands c.held.ensures
 
 pub returns-else-at-len : goal.returns-else-at-len
 returns-else-at-len c = λ w t.
-    let h : length c.args.self.now.nodes.items ≤ c.args.at = omega (arith, c.if-at-len.false, c.len.ensures) in
+    let h : length c.args.self.now.members.items ≤ c.args.at = omega (arith, c.if-at-len.false, c.len.ensures) in
     looks_none (course c.args.self.now) w c.args.at (λ hs. None ≡ slice_get (held_ids hs) c.args.nth) h t refl

@@ -15,7 +15,7 @@ returns-then-keeps_mail c = λ w t.
     let at = c.place_of-at.result in
     let o = end_of c.args.end (ends_here at w) in
     agents_is (course c.args.self.now) w c.args.number at c.args.end true c.is_some.result c.place_of-at.ensures t
-    (sym c.if-keeps_mail.true ∙ c.keeps_mail.ensures w.mails (stores_as w.mails c.deref.ensures.value t.trace.mails))
+    (sym c.if-keeps_mail.true ∙ c.keeps_mail.ensures w.nodes w.mails (stores_as w.nodes w.mails c.deref.ensures.value t.trace.members))
     (c.is_some.ensures ∙ (sym (copied_some c.end_at.result) ∙ lent_held (option_copied c.end_at.result) o (c.end_at.ensures w t)))
 
 pub returns-else-keeps_mail : goal.returns-else-keeps_mail
@@ -24,4 +24,4 @@ returns-else-keeps_mail c = λ w t.
     let held = is_some (facts_at (end_of c.args.end (ends_here at w))) in
     c.if-keeps_mail.false
     ∙ agents_is (course c.args.self.now) w c.args.number at c.args.end false held c.place_of-at.ensures t
-    (sym c.if-keeps_mail.false ∙ c.keeps_mail.ensures w.mails (stores_as w.mails c.deref.ensures.value t.trace.mails)) refl
+    (sym c.if-keeps_mail.false ∙ c.keeps_mail.ensures w.nodes w.mails (stores_as w.nodes w.mails c.deref.ensures.value t.trace.members)) refl

@@ -15,7 +15,7 @@ returns-then-keeps_mail c =
     let at = c.place_of-at.result in
     runs_as old (course c.agent_turn.new.self) (agent_turn line node at) (mail line node) c.agent_turn.result
     (λ w t.
-    ap (λ b. turn_by line node at b w) (sym c.if-keeps_mail.true ∙ c.keeps_mail.ensures w.mails (stores_as w.mails c.deref.ensures.value t.trace.mails))
+    ap (λ b. turn_by line node at b w) (sym c.if-keeps_mail.true ∙ c.keeps_mail.ensures w.nodes w.mails (stores_as w.nodes w.mails c.deref.ensures.value t.trace.members))
     ∙ ap (λ k. turn_by line node k (is_some (mail_at k w)) w) (place_is old w node at c.place_of-at.ensures t))
     c.agent_turn.ensures
 
@@ -26,6 +26,6 @@ returns-in_ok-refuse c = λ w t.
     let node = c.args.node in
     let at = c.place_of-at.result in
     subst (λ v. Stands (course c.refuse.new.self) v)
-    (ap (λ b. turn_by line node at b w) (sym c.if-keeps_mail.false ∙ c.keeps_mail.ensures w.mails (stores_as w.mails c.deref.ensures.value t.trace.mails))
+    (ap (λ b. turn_by line node at b w) (sym c.if-keeps_mail.false ∙ c.keeps_mail.ensures w.nodes w.mails (stores_as w.nodes w.mails c.deref.ensures.value t.trace.members))
     ∙ ap (λ k. turn_by line node k (is_some (mail_at k w)) w) (place_is old w node at c.place_of-at.ensures t))
     (c.in_ok-refuse.ensures w t)

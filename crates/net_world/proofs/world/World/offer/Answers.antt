@@ -13,13 +13,13 @@ pub returns-in_err-is_written-clause-err : goal.returns-in_err-is_written-clause
 returns-in_err-is_written-clause-err c =
     let p = err_from_is_err_and c.from_residual.result c.from_residual.ensures.1 in
     rw (p.1, p.2) (λ numbers w t.
-    let message = c.as_slice.ensures.value ∙ c.wire_at-message.ensures w.mails (stores_as w.mails c.deref.ensures.value t.trace.mails) in
+    let message = c.as_slice.ensures.value ∙ c.wire_at-message.ensures w.nodes w.mails (stores_as w.nodes w.mails c.deref.ensures.value t.trace.members) in
     offer_stops c.args.here.line c.args.here.node c.args.here.at c.args.id c.args.number numbers w _
     (refused_same _ _ _ (ap (λ m. write_if_taken c.args.here.line c.args.here.at c.args.id m w) message) (c.in_err-is_written.ensures.err w t)))
 
 pub returns-then-not-is_written-clause-ok : goal.returns-then-not-is_written-clause-ok
 returns-then-not-is_written-clause-ok c = λ numbers w t.
-    let message = c.as_slice.ensures.value ∙ c.wire_at-message.ensures w.mails (stores_as w.mails c.deref.ensures.value t.trace.mails) in
+    let message = c.as_slice.ensures.value ∙ c.wire_at-message.ensures w.nodes w.mails (stores_as w.nodes w.mails c.deref.ensures.value t.trace.members) in
     let said : c.in_ok-is_written.is_written ≡ may_write c.args.here.at c.args.id (offer_octets c.args.here.line c.args.here.node c.args.here.at c.args.number w) w =
     c.in_ok-is_written.ensures.answer w t ∙ ap (λ m. may_write c.args.here.at c.args.id m w) message in
     let no = sym c.if-not-is_written.true ∙ said in
@@ -29,7 +29,7 @@ returns-then-not-is_written-clause-ok c = λ numbers w t.
 
 pub returns-clause-ok : goal.returns-clause-ok
 returns-clause-ok c = λ numbers w t.
-    let message = c.as_slice.ensures.value ∙ c.wire_at-message.ensures w.mails (stores_as w.mails c.deref.ensures.value t.trace.mails) in
+    let message = c.as_slice.ensures.value ∙ c.wire_at-message.ensures w.nodes w.mails (stores_as w.nodes w.mails c.deref.ensures.value t.trace.members) in
     let said : c.in_ok-is_written.is_written ≡ may_write c.args.here.at c.args.id (offer_octets c.args.here.line c.args.here.node c.args.here.at c.args.number w) w =
     c.in_ok-is_written.ensures.answer w t ∙ ap (λ m. may_write c.args.here.at c.args.id m w) message in
     let yes = sym c.if-not-is_written.false ∙ said in

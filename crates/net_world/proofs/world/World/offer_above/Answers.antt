@@ -34,6 +34,6 @@ returns c = λ w t.
     let i = c.loop-nth.invariant w t in
     let queued = queued_of (mail_in c.args.here.at i.0.mails) in
     let count = ap (λ ms. length (queued_of (mail_in c.args.here.at ms))) i.2 in
-    let past : length queued ≤ c.loop-nth.nth = omega (arith, count, c.loop-nth-test.false, c.queued_count-count.ensures w.mails (stores_as w.mails c.deref.ensures.value t.trace.mails)) in
+    let past : length queued ≤ c.loop-nth.nth = omega (arith, count, c.loop-nth-test.false, c.queued_count-count.ensures w.nodes w.mails (stores_as w.nodes w.mails c.deref.ensures.value t.trace.members)) in
     let none = ap (λ ns. offer c.args.here.line c.args.here.node c.args.here.at c.args.id ns i.0) (numbers_past c.args.dest.now c.args.last queued c.loop-nth.nth past) in
     subst (λ v. Stands (course c.loop-nth.self) v) (sym none ∙ i.3) i.1

@@ -14,7 +14,7 @@ returns-then-is_due-clause-ok c =
     let test : true ≡ (same_call c.in-Some.to dest && nat_lt c.args.last c.in-Some.number) = grind (arith, c.is_due.ensures, c.if-is_due.true) in
     nth_ok c.args.here.line c.args.here.node c.args.here.at c.args.id dest c.args.last c.args.nth (course c.args.self.now) (course c.offer.new.self) c.in-Some.number c.offer.result
     (λ w t. numbers_next dest c.in-Some.to c.args.last c.in-Some.number (queued_of (mail_in c.args.here.at w.mails)) c.args.nth true
-    (c.in-Some.ensures w.mails (stores_as w.mails was t.trace.mails)) test)
+    (c.in-Some.ensures w.nodes w.mails (stores_as w.nodes w.mails was t.trace.members)) test)
     c.offer.ensures.ok
 
 pub returns-then-is_due-clause-err : goal.returns-then-is_due-clause-err
@@ -24,7 +24,7 @@ returns-then-is_due-clause-err c =
     let test : true ≡ (same_call c.in-Some.to dest && nat_lt c.args.last c.in-Some.number) = grind (arith, c.is_due.ensures, c.if-is_due.true) in
     nth_err c.args.here.line c.args.here.node c.args.here.at c.args.id dest c.args.last c.args.nth (course c.args.self.now) (course c.offer.new.self) c.in-Some.number c.offer.result
     (λ w t. numbers_next dest c.in-Some.to c.args.last c.in-Some.number (queued_of (mail_in c.args.here.at w.mails)) c.args.nth true
-    (c.in-Some.ensures w.mails (stores_as w.mails was t.trace.mails)) test)
+    (c.in-Some.ensures w.nodes w.mails (stores_as w.nodes w.mails was t.trace.members)) test)
     c.offer.ensures.err
 
 pub returns-else-is_due-clause-ok : goal.returns-else-is_due-clause-ok
@@ -34,11 +34,11 @@ returns-else-is_due-clause-ok c =
     let test : false ≡ (same_call c.in-Some.to dest && nat_lt c.args.last c.in-Some.number) = grind (arith, c.is_due.ensures, c.if-is_due.false) in
     nth_passed c.args.here.line c.args.here.node c.args.here.at c.args.id dest c.args.last c.args.nth (course c.args.self.now) (course c.args.self.now)
     (λ w t. numbers_next dest c.in-Some.to c.args.last c.in-Some.number (queued_of (mail_in c.args.here.at w.mails)) c.args.nth false
-    (c.in-Some.ensures w.mails (stores_as w.mails was t.trace.mails)) test)
+    (c.in-Some.ensures w.nodes w.mails (stores_as w.nodes w.mails was t.trace.members)) test)
 
 pub returns-in-None-clause-ok : goal.returns-in-None-clause-ok
 returns-in-None-clause-ok c =
     let dest = c.args.dest.now in
     let was = c.deref.ensures.value in
     nth_passed c.args.here.line c.args.here.node c.args.here.at c.args.id dest c.args.last c.args.nth (course c.args.self.now) (course c.args.self.now)
-    (λ w t. numbers_none dest c.args.last (queued_of (mail_in c.args.here.at w.mails)) c.args.nth (c.in-None.ensures w.mails (stores_as w.mails was t.trace.mails)))
+    (λ w t. numbers_none dest c.args.last (queued_of (mail_in c.args.here.at w.mails)) c.args.nth (c.in-None.ensures w.nodes w.mails (stores_as w.nodes w.mails was t.trace.members)))

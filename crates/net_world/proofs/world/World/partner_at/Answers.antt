@@ -8,10 +8,10 @@ use Rattle.net_world.proofs.world.World.partner_at.Goals as goal
 
 pub returns-then-at-len : goal.returns-then-at-len
 returns-then-at-len c = λ w t.
-    let h : c.args.at < length c.args.self.now.nodes.items = omega (arith, c.if-at-len.true, c.len.ensures) in
+    let h : c.args.at < length c.args.self.now.members.items = omega (arith, c.if-at-len.true, c.len.ensures) in
     looks (course c.args.self.now) w c.args.at c.index.result.now c.circuits.result.now (λ hs. c.partner.result ≡ partner_at (end_of c.args.id hs)) h t c.index.ensures c.circuits.ensures.stands c.partner.ensures
 
 pub returns-else-at-len : goal.returns-else-at-len
 returns-else-at-len c = λ w t.
-    let h : length c.args.self.now.nodes.items ≤ c.args.at = omega (arith, c.if-at-len.false, c.len.ensures) in
+    let h : length c.args.self.now.members.items ≤ c.args.at = omega (arith, c.if-at-len.false, c.len.ensures) in
     looks_none (course c.args.self.now) w c.args.at (λ hs. None ≡ partner_at (end_of c.args.id hs)) h t refl

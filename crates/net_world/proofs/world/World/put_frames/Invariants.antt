@@ -8,4 +8,4 @@ invariant-loop-written l = (w : World) → Stands (course l.fn.self) w
     → (v : World) × Stands (course l.self) v × (put_by l.line l.at l.node l.on_air l.came v ≡ put_by l.line l.at l.node l.on_air l.came w)
 
 abbrev pub decreases-loop-written : goal.decreases-loop-written
-decreases-loop-written l = frames_at l.at l.self.nodes.items
+decreases-loop-written l = frames_at l.at l.self.members.items

@@ -1,4 +1,4 @@
-use Rattle.std.proofs.Common.{◌<◌, ◌≤◌, ap, sym, arith, length}
+use Rattle.std.proofs.Common.{◌<◌, ◌≤◌, ap, arith, length}
 use Rattle.std.specs.Prelude.{Option, Some}
 use Rattle.std.specs.Option.{option_map}
 use Rattle.network_file.specs.declared.plan.declarations.Declaration.{Declaration}
@@ -7,26 +7,22 @@ use Rattle.net_model.specs.Lines.{table_of}
 use Rattle.net_world.specs.Running.{course}
 use Rattle.net_model.specs.Starting.{Placed}
 use Rattle.net_model.specs.Tables.{Table}
-use Rattle.net_world.proofs.Placing.{asked, asked_none, declared_is, past_declared}
+use Rattle.net_world.proofs.Placing.{asked, asked_none, declared_is}
 use Rattle.net_world.proofs.world.World.table_at.Goals as goal
+use Rattle.net_model.specs.declared.members.Member.{Member}
 
 pub returns-in_ok-table : goal.returns-in_ok-table
 returns-in_ok-table c = λ w t.
     let old = course c.args.self.now in
     let at = c.args.at in
-    let d = c.index.result.now in
-    let h : at < length c.args.self.now.nodes.items = omega (arith, c.if-at-len.true, c.len.ensures) in
-    let f : NodeState → Option Table = λ n. Some (table_of (record { declared = d; state = n })) in
-    asked old w at c.index-then-at-len-2.result.now f (option_map table_of) (Some c.in_ok-table.table) h t c.index-then-at-len-2.ensures
-    (λ (p : Placed) is. ap (λ (e : Declaration). Some (table_of (record { declared = e; state = p.state }))) (declared_is old w at d p c.index.ensures t is))
+    let m : Member = c.index-member.result.now in
+    let h : at < length c.args.self.now.members.items = omega (arith, c.if-at-len.true, c.len.ensures) in
+    let f : NodeState → Option Table = λ n. Some (table_of (record { declared = m.declared; state = n })) in
+    asked old w at m f (option_map table_of) (Some c.in_ok-table.table) h t c.index-member.ensures
+    (λ (p : Placed) is. ap (λ (e : Declaration). Some (table_of (record { declared = e; state = p.state }))) (declared_is old w at m p h c.index-member.ensures t is))
     (λ n stands. ap (λ (x : Table). Some x) (c.in_ok-table.ensures n stands))
 
 pub returns-else-at-len : goal.returns-else-at-len
 returns-else-at-len c = λ w t.
-    let h : length c.args.self.now.nodes.items ≤ c.args.at = omega (arith, c.if-at-len.false, c.len.ensures) in
+    let h : length c.args.self.now.members.items ≤ c.args.at = omega (arith, c.if-at-len.false, c.len.ensures) in
     asked_none (course c.args.self.now) w c.args.at (option_map table_of) h t
-
-pub returns-else-at-len-2 : goal.returns-else-at-len-2
-returns-else-at-len-2 c = λ w t.
-    let h : length c.args.self.now.declared.items ≤ c.args.at = omega (arith, c.if-at-len-2.false, c.len-then-at-len.ensures) in
-    sym (ap (option_map table_of) (past_declared (course c.args.self.now) w c.args.at h t))

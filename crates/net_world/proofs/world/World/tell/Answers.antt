@@ -16,9 +16,7 @@ returns-clause-goes c = λ w t.
             ∙ (map-append numbered_of c.args.self.now.events.items (record { line = c.args.line; event = c.args.event } ∷ [])
             ∙ ap (λ es. es ++ numbered c.args.line event ∷ []) t.trace.told);
         air = t.trace.air;
-        declared = t.trace.declared;
-        nodes = t.trace.nodes;
-        mails = t.trace.mails;
+        members = t.trace.members;
         ends = λ node. c.in_ok-note.ensures node ∙ (ap (note_event node event) (t.trace.ends node) ∙ sym (one_more node w.told (numbered c.args.line event)));
         allowance = t.trace.allowance;
       };

@@ -7,4 +7,4 @@ abbrev pub invariant-loop-event : goal.invariant-loop-event
 invariant-loop-event l = (w : World) → Stands (course l.fn.self) w → (v : World) × Stands (course l.self) v × (all_entries l.line l.at v ≡ all_entries l.line l.at w)
 
 abbrev pub decreases-loop-event : goal.decreases-loop-event
-decreases-loop-event l = entries_at l.at l.self.nodes.items
+decreases-loop-event l = entries_at l.at l.self.members.items

@@ -23,5 +23,5 @@ loop-id-preserved c = record {
       let told = c.in_ok-tell_loss.ensures.goes (tell line (losses_at node before o) w) (c.loop-id.invariant.goes w t) in
       let one = subst (λ k. Stands new (tell line (loss_at node k o) (tell line (losses_at node before o) w))) here told in
       subst (λ k. Stands new (tell line (losses_at node k o) w)) next (subst (λ v. Stands new v) (one_loss line node before c.args.at w) one);
-  nodes = c.in_ok-tell_loss.ensures.nodes ∙ c.loop-id.invariant.nodes;
+  members = c.in_ok-tell_loss.ensures.members ∙ c.loop-id.invariant.members;
 }

@@ -7,5 +7,5 @@ use Rattle.net_world.proofs.world.World.tell_losses.Given as goal
 abbrev pub invariant-loop-id : goal.invariant-loop-id
 invariant-loop-id l = record {
   goes : (w : World) → Stands (course l.fn.self) w → Stands (course l.self) (tell l.line (losses_at l.node (l.id - 1) (slice_get w.nodes l.at)) w);
-  nodes : l.self.nodes.items ≡ l.fn.self.nodes.items;
+  members : l.self.members.items ≡ l.fn.self.members.items;
 }

@@ -13,7 +13,7 @@ returns c =
     runs_then old mid (course c.tick_nodes.new.self) later (λ w. tick_from c.args.line 0 (length w.nodes) w) c.tick_nodes.result
     (λ w t.
     record {
-      trace = record { told = t.trace.told; air = t.trace.air; declared = t.trace.declared; nodes = t.trace.nodes; mails = t.trace.mails; ends = t.trace.ends; allowance = t.trace.allowance };
+      trace = record { told = t.trace.told; air = t.trace.air; members = t.trace.members; ends = t.trace.ends; allowance = t.trace.allowance };
       channels = t.channels;
       now = omega (arith, c.saturating_add.ensures, t.now);
     })

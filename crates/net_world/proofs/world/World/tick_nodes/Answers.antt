@@ -16,7 +16,7 @@ returns-in_err-tick_node c =
     let line = c.args.line in
     let at = c.loop-at.at in
     let count = length w.nodes in
-    let same = same_length c.args.self.now.nodes.items w.nodes t.trace.nodes in
+    let same = same_length c.args.self.now.members.items w.nodes w.mails t.trace.members in
     let h : at < count = omega (arith, same, c.loop-at-test.true, c.len-at-end.ensures) in
     let once : World = tick_node line at i.0 in
     let whole = sym (tick_next line at count i.0 h) ∙ i.2 in
@@ -30,7 +30,7 @@ loop-at-preserved c = λ w t.
     let line = c.args.line in
     let at = c.loop-at.at in
     let count = length w.nodes in
-    let same = same_length c.args.self.now.nodes.items w.nodes t.trace.nodes in
+    let same = same_length c.args.self.now.members.items w.nodes w.mails t.trace.members in
     let h : at < count = omega (arith, same, c.loop-at-test.true, c.len-at-end.ensures) in
     (tick_node line at i.0, c.in_ok-tick_node.ensures i.0 i.1, sym (tick_next line at count i.0 h) ∙ i.2)
 
@@ -38,6 +38,6 @@ pub returns : goal.returns
 returns c = λ w t.
     let i = c.loop-at.invariant w t in
     let count = length w.nodes in
-    let same = same_length c.args.self.now.nodes.items w.nodes t.trace.nodes in
+    let same = same_length c.args.self.now.members.items w.nodes w.mails t.trace.members in
     let none : count - c.loop-at.at ≡ 0 = omega (arith, same, c.loop-at-test.false, c.len-at-end.ensures) in
     subst (λ v. Stands (course c.loop-at.self) v) (sym (tick_end c.args.line c.loop-at.at (count - c.loop-at.at) i.0 none) ∙ i.2) i.1
