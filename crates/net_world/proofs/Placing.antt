@@ -11,8 +11,6 @@ use Rattle.net_model.specs.Starting.{Placed}
 use Rattle.net_model.specs.Standing.{MembersStand, is_member}
 use Rattle.net_model.specs.World.{World, place_of_node}
 use Rattle.net_model.proofs.Looks.{change_of}
-use Rattle.net_model.proofs.Changing.{map_set}
-use Rattle.net_model.proofs.Containing.{place_named}
 use Rattle.net_model.specs.declared.members.Member.{Member}
 use Rattle.node_mail.specs.Lists.{Lists}
 use Rattle.net_model.proofs.Stores.{all_declared, declared_place}
