@@ -46,7 +46,7 @@ fn set_path(node: &mut Node, via: &Via) -> Result<(), NoMemory>
 }
 
 /// The repeaters of a peer as a path, none of which has repeated yet.
-fn path_of(via: &Via) -> Path
+pub fn path_of(via: &Via) -> Path
     ensures { result ≡ node_settings.path_of via.now }
 {
     let mut path = Path::new();
