@@ -105,6 +105,27 @@ pub first_told : (c : Course) (at : ℕ) (kept : Member) (entry : states.Entry) 
 first_told c at kept entry (Ok event) h ke says is = λ w t. first_is c w at kept entry event h ke says is t
 first_told c at kept entry (Err e) h ke says is = is
 
+-- what an entry that was fetched is told as
+told_case : (at : ℕ) (w : World) (entry : states.Entry) (p : Placed) → slice_get w.nodes at ≡ Some p
+    → Entry p.declared.node entry ∷ [] ≡ entry_events entry (slice_get (change_of at fetched_entry (Some p) w).nodes at)
+told_case at w entry p is = sym (ap (entry_events entry) (get_set w.nodes at p (record p { state = fetched_entry p.state }) is))
+
+told_of_option : (at : ℕ) (w : World) (entry : states.Entry) (p : Placed) (o : Option Placed) → slice_get w.nodes at ≡ o → o ≡ Some p
+    → Entry p.declared.node entry ∷ [] ≡ entry_events entry (slice_get (change_of at fetched_entry o w).nodes at)
+told_of_option at w entry p None is e = absurd (cc)
+told_of_option at w entry p (Some q) is e =
+    let same : p ≡ q = cc in
+    ap (λ (x : Placed). Entry x.declared.node entry ∷ []) same ∙ told_case at w entry q is
+
+pub entry_told : (c : Course) (w : World) (at : ℕ) (kept : Member) (entry : states.Entry) (event : Event) → at < length c.left.members → kept ≡ get_or c.left.members at kept
+    → Stands c w → event ≡ Entry kept.declared.node entry → event ∷ [] ≡ entry_events entry (slice_get (change at fetched_entry w).nodes at)
+unfolding change
+entry_told c w at kept entry event h here t is =
+    let place = at_place c.left.members w.nodes w.mails at kept h t.trace.members in
+    let p : Placed = place.placed in
+    let same : p.declared ≡ kept.declared = declared_is c w at kept p h here t place.is_in in
+    ap (λ e. e ∷ []) (is ∙ sym (ap (λ (x : Declaration). Entry x.node entry) same)) ∙ told_of_option at w entry p (slice_get w.nodes at) refl place.is_in
+
 -- ---- none is left
 
 none_case : (line at : ℕ) (v : World) (p : Placed) (es : List states.Entry) → p.state.station.entries ≡ es → None ≡ slice_get es 0

@@ -1,6 +1,5 @@
 -- A replay while it runs. No public clause cites it: not for the reader of a contract.
 use Rattle.std.specs.Prelude.{ℕ, zero, suc, ◌≡◌, min, List, [], ◌∷◌, ◌++◌, length, map, Option, Some, None, Result, Ok, Err, Bool, true, false, if◌then◌else◌, slice_get}
-use Rattle.circuit_l4.specs.declared.facts.EndFacts.{EndFacts}
 use Rattle.circuit_table.specs.CircuitSets.{facts_at}
 use Rattle.circuit_table.specs.Sets.{end_of}
 use Rattle.radio_base.specs.declared.modulus.LinkModulus.{LinkModulus}
@@ -122,10 +121,6 @@ BurstGoes old new whole later true = GoesOn old new whole
 BurstGoes old new whole later false = (w : World) → Stands old w → (v : World) × Stands new v × (whole w ≡ later v)
 
 -- ---- a restart
-
-abbrev pub facts_of : ℕ → Option Placed → Option EndFacts
-facts_of id None = None
-facts_of id (Some p) = facts_at (end_of id p.state.station.set.set.ends)
 
 abbrev pub loss_at : ℕ → ℕ → Option Placed → List Event
 loss_at node id None = []

@@ -1,9 +1,8 @@
 //! The three moves of which every line is made: something reaches a node, events are told, a node's frames are put in the air. Called by
 //! the files of lines: `acting`, `bursting`, `delivering`, `mailing` and `restarting`.
-ghost use Rattle.std.specs.Prelude.{◌≡◌, ◌∷◌, [], ℕ, List, true, false, is_some, IfOk, IfSome, OnOk, length, slice_get, ◌<◌};
+ghost use Rattle.std.specs.Prelude.{◌≡◌, ◌∷◌, [], ℕ, List, true, false, IfOk, OnOk, length, slice_get, ◌<◌};
 ghost use Rattle.std.specs.List.{position_or_len};
 ghost use Rattle.std.specs.Option.{option_map};
-ghost use Rattle.node_core.specs.Standing.{entry_of};
 ghost use Rattle.node_core.specs.Acts.{act_of};
 ghost use Rattle.node_core.specs.Broadcasts.{broadcast_octets};
 ghost use Rattle.nodes_broadcast.specs.Nodes.{view};
@@ -23,7 +22,7 @@ use net_model::{
     Answer, Event, NumberedEvent, ReplayRefusal, answer_of, datagram_event, entry_event, place_of,
 };
 use network_file::is_on_air;
-use node_core::{NodeEntry, UserAct, broadcast_frame};
+use node_core::{UserAct, broadcast_frame};
 use nodes_broadcast::Nodes;
 use radio_base::{LinkModulus, NoMemory};
 
@@ -127,37 +126,27 @@ impl World<'_> {
 
     /// Tells what the node at a place has to tell.
     fn tell_entries(&mut self, line: u32, at: usize) -> Result<(), NoMemory>
+        requires { at < length self.old.members.items }
         ensures { OnOk result (GoesOn (course self.old) (course self.new) (running.all_entries line at)) }
     {
         // So it mostly is, and then no room is made for what could be told.
-        if !self.has_entries(at) {
+        if !self.members[at].node.has_entries() {
             return Ok(());
         }
         self.tell_all_entries(line, at)?;
         Ok(())
     }
 
-    /// Whether the node at a place has something to tell.
-    fn has_entries(&self, at: usize) -> bool
-        ensures { (w : worlds.World) → Stands (course self.now) w
-            → result ≡ is_some (running.first_entry (slice_get w.nodes at)) }
-    {
-        if at < self.members.len() {
-            self.members[at].node.has_entries()
-        } else {
-            false
-        }
-    }
-
     #[inline(never)]
     fn tell_all_entries(&mut self, line: u32, at: usize) -> Result<(), NoMemory>
+        requires { at < length self.old.members.items }
         ensures { OnOk result (GoesOn (course self.old) (course self.new) (running.all_entries line at)) }
     {
         loop {
             match self.first_event(at)? {
                 Some(event) => {
                     // (the entry was lent, and is taken now)
-                    if self.next_entry(at).is_none() {
+                    if self.members[at].node.trace_entry().is_none() {
                         return Ok(());
                     }
                     self.tell(line, event)?;
@@ -173,12 +162,10 @@ impl World<'_> {
 
     /// The first thing that the node at a place has to tell, as an event, where it is a datagram that an end has sent or taken in.
     fn first_event(&self, at: usize) -> Result<Option<Event>, NoMemory>
+        requires { at < length self.now.members.items }
         ensures { IfOk result (λ event. (w : worlds.World) → Stands (course self.now) w
             → running.IsFirst (option_map event_of event) (slice_get w.nodes at)) }
     {
-        if at >= self.members.len() {
-            return Ok(None);
-        }
         let member = &self.members[at];
         match member.node.first_entry() {
             Some(entry) => datagram_event(self.alloc, member.declared.node, entry),
@@ -190,6 +177,7 @@ impl World<'_> {
     /// call makes room for what this one needs.
     #[inline(never)]
     fn tell_one(&mut self, line: u32, at: usize) -> Result<bool, NoMemory>
+        requires { at < length self.old.members.items }
         ensures told { IfOk result (λ told. told ≡ true → (w : worlds.World) → Stands (course self.old) w
             → (v : worlds.World) × Stands (course self.new) v
             × (running.all_entries line at v ≡ running.all_entries line at w)) }
@@ -197,45 +185,16 @@ impl World<'_> {
             → GoesOn (course self.old) (course self.new) (running.all_entries line at)) }
         ensures left { IfOk result (λ told. told ≡ true
             → running.entries_at at self.new.members.items < running.entries_at at self.old.members.items) }
+        ensures count { length self.new.members.items ≡ length self.old.members.items }
     {
-        match self.next_entry(at) {
+        let node = self.members[at].declared.node;
+        match self.members[at].node.trace_entry() {
             Some(entry) => {
-                self.tell_entry(line, at, entry)?;
+                let event = entry_event(self.alloc, node, entry)?;
+                self.tell(line, event)?;
                 Ok(true)
             }
             None => Ok(false),
-        }
-    }
-
-    /// Fetches the first thing that the node at a place has to tell.
-    fn next_entry(&mut self, at: usize) -> Option<NodeEntry>
-        ensures answer { (w : worlds.World) → Stands (course self.old) w
-            → option_map entry_of result ≡ running.first_entry (slice_get w.nodes at) }
-        ensures goes { GoesOn (course self.old) (course self.new) (running.change at running.fetched_entry) }
-        ensures left { IfSome result (λ _. running.entries_at at self.new.members.items
-            < running.entries_at at self.old.members.items) }
-    {
-        if at < self.members.len() {
-            self.members[at].node.trace_entry()
-        } else {
-            None
-        }
-    }
-
-    /// Tells an entry of the node at a place.
-    fn tell_entry(&mut self, line: u32, at: usize, entry: NodeEntry) -> Result<(), NoMemory>
-        ensures goes { OnOk result ((w : worlds.World) → Stands (course self.old) w
-            → Stands (course self.new) (worlds.tell line
-            (running.entry_events (entry_of entry) (slice_get w.nodes at)) w)) }
-        ensures members { self.new.members.items ≡ self.old.members.items }
-    {
-        match self.members.get(at) {
-            Some(member) => {
-                let event = entry_event(self.alloc, member.declared.node, entry)?;
-                self.tell(line, event)?;
-                Ok(())
-            }
-            None => Ok(()),
         }
     }
 
@@ -280,27 +239,13 @@ impl World<'_> {
         on_air: bool,
         came: LinkModulus,
     ) -> Result<(), ReplayRefusal>
+        requires { at < length self.old.members.items }
         ensures { Runs (course self.old) (course self.new) (running.put_by line at node on_air came) result }
     {
-        while let Some(written) = self.next_frame(at) {
+        while let Some(written) = self.members[at].node.next_frame() {
             self.put_frame(line, node, on_air, came, written)?;
         }
         Ok(())
-    }
-
-    /// Fetches the first frame that waits at the node at a place.
-    fn next_frame(&mut self, at: usize) -> Option<Written>
-        ensures answer { (w : worlds.World) → Stands (course self.old) w
-            → result ≡ running.first_frame (slice_get w.nodes at) }
-        ensures goes { GoesOn (course self.old) (course self.new) (running.change at running.fetched_frame) }
-        ensures left { IfSome result (λ _. running.frames_at at self.new.members.items
-            < running.frames_at at self.old.members.items) }
-    {
-        if at < self.members.len() {
-            self.members[at].node.next_frame()
-        } else {
-            None
-        }
     }
 
     /// Puts a frame of a node in the air, where the node is on a channel.

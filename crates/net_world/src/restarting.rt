@@ -7,7 +7,7 @@ ghost use Rattle.net_world.specs.Running.{GoesOn, Stands, course};
 ghost use Rattle.net_model.specs.World as worlds;
 
 use crate::world::World;
-use circuit_l4::{EndFacts, Pair};
+use circuit_l4::Pair;
 use net_model::{Event, LostEnd, started};
 use network_file::Network;
 use radio_base::{COUNT_MAX, NoMemory};
@@ -60,7 +60,8 @@ impl World<'_> {
 
     /// Tells which of so many ends the node at a place holds: they are lost.
     fn tell_losses(&mut self, line: u32, at: usize, node: u8, made: u64) -> Result<(), NoMemory>
-        requires { made ≤ 4611686018427387904 }
+        requires within { at < length self.old.members.items }
+        requires made { made ≤ 4611686018427387904 }
         ensures goes { OnOk result (GoesOn (course self.old) (course self.new)
             (λ w. worlds.tell line (running.losses_at node made (slice_get w.nodes at)) w)) }
         ensures members { self.new.members.items ≡ self.old.members.items }
@@ -73,28 +74,18 @@ impl World<'_> {
 
     /// Tells that an end of the node at a place is lost, where it is held.
     fn tell_loss(&mut self, line: u32, at: usize, node: u8, end: u64) -> Result<(), NoMemory>
+        requires { at < length self.old.members.items }
         ensures goes { OnOk result (GoesOn (course self.old) (course self.new)
             (λ w. worlds.tell line (running.loss_at node end (slice_get w.nodes at)) w)) }
         ensures members { self.new.members.items ≡ self.old.members.items }
     {
-        match self.facts_at(at, end) {
+        match self.members[at].node.facts(end) {
             Some(facts) => {
                 let end = Box::new(self.alloc, LostEnd { id: end, facts })?;
                 self.tell(line, Event::Lost { node, end })?;
                 Ok(())
             }
             None => Ok(()),
-        }
-    }
-
-    fn facts_at(&self, at: usize, end: u64) -> Option<EndFacts>
-        ensures { (w : worlds.World) → Stands (course self.now) w
-            → result ≡ running.facts_of end (slice_get w.nodes at) }
-    {
-        if at < self.members.len() {
-            self.members[at].node.facts(end)
-        } else {
-            None
         }
     }
 }
