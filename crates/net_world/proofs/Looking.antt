@@ -14,11 +14,12 @@ use Rattle.circuit_table.specs.Pumps.{Waiting, at_rest}
 use Rattle.circuit_table.specs.Sets.{Holder, end_of}
 use Rattle.circuit_table.specs.Standing.{by_write, take_answer, write_answer}
 use Rattle.link_table.specs.Standing.{TableView}
-use Rattle.node_core.specs.Standing.{NodeStands}
+use Rattle.node_core.specs.Standing.{Kept, NodeStands}
 use Rattle.node_model.specs.States.{NodeState}
 use Rattle.net_world.specs.Agents.{is_requested, is_up_end}
 use Rattle.net_model.specs.Mailing.{dest_of, ends_here, is_agents, mail_in, waits}
-use Rattle.net_world.specs.Running.{Course, Stands}
+use Rattle.net_world.specs.Running.{Course, NodeLent, Stands}
+use Rattle.net_model.specs.Starting.{Placed}
 use Rattle.net_model.specs.Standing.{is_member}
 use Rattle.net_model.specs.World.{World}
 use Rattle.net_model.proofs.Looks.{ends_of_placed}
@@ -27,17 +28,24 @@ use Rattle.net_model.specs.declared.members.Member.{Member}
 
 -- ---- the ends of the node at a place are those of its circuits, of which nothing is untold
 
-pub looks : (c : Course) (w : World) (at : ℕ) (before : Member) (lent : Circuits TableView) (P : List Holder → Type 0) → at < length c.left.members → Stands c w
-    → before ≡ get_or c.left.members at before → ((n : NodeState) → NodeStands before.node n → SetStands lent (at_rest n.station.set.set))
-    → ((x : Waiting) → SetStands lent x → P (held_by x.untold x.set.ends)) → P (ends_here at w)
-looks c w at before lent P h t here rests says =
-    let place = at_place c.left.members w.nodes w.mails at before h t.trace.members in
-    let n : NodeState = place.placed.state in
-    let stands : NodeStands before.node n = subst (λ (m : Member). NodeStands m.node n) (sym here) place.stands in
-    subst (λ o. P (ends_of_placed o)) (sym place.is_in) (says (at_rest n.station.set.set) (rests n stands))
+pub looks : (o : Option Placed) (n : Kept) (lent : Circuits TableView) (P : List Holder → Type 0) → NodeLent (Some n) o
+    → ((s : NodeState) → NodeStands n s → SetStands lent (at_rest s.station.set.set)) → ((x : Waiting) → SetStands lent x → P (held_by x.untold x.set.ends)) → P (ends_of_placed o)
+looks None n lent P node rests says = absurd node
+looks (Some p) n lent P node rests says = says (at_rest p.state.station.set.set) (rests p.state node)
 
-pub looks_none : (c : Course) (w : World) (at : ℕ) (P : List Holder → Type 0) → length c.left.members ≤ at → Stands c w → P [] → P (ends_here at w)
-looks_none c w at P h t none = subst (λ o. P (ends_of_placed o)) (sym (past_place c w at h t)) none
+pub looks_none : (o : Option Placed) (P : List Holder → Type 0) → NodeLent None o → P [] → P (ends_of_placed o)
+looks_none None P node none = none
+looks_none (Some p) P node none = absurd node
+
+-- the node at a place is lent
+pub lent_at : (c : Course) (w : World) (at : ℕ) (before : Member) → at < length c.left.members → before ≡ get_or c.left.members at before → Stands c w
+    → NodeLent (Some before.node) (slice_get w.nodes at)
+lent_at c w at before h here t =
+    let place = at_place c.left.members w.nodes w.mails at before h t.trace.members in
+    subst (λ o. NodeLent (Some before.node) o) (sym place.is_in) (subst (λ (m : Member). NodeStands m.node place.placed.state) (sym here) place.stands)
+
+pub lent_none : (c : Course) (w : World) (at : ℕ) → length c.left.members ≤ at → Stands c w → NodeLent None (slice_get w.nodes at)
+lent_none c w at h t = subst (λ o. NodeLent None o) (sym (past_place c w at h t)) tt
 
 -- ---- an end that is lent
 

@@ -88,10 +88,6 @@ changed c w at before n step h t here goes =
       now = t.now;
     })
 
-pub unchanged : (c : Course) (w : World) (at : ℕ) (step : NodeState → NodeState) → length c.left.members ≤ at → Stands c w → Stands c (change at step w)
-unfolding change
-unchanged c w at step h t = subst (λ o. Stands c (change_of at step o w)) (sym (past_place c w at h t)) t
-
 -- what is asked of the node at a place
 pub asked : {A : Type 0} (c : Course) (w : World) (at : ℕ) (before : Member) (f : NodeState → A) (g : Option Placed → A) (a : A) → at < length c.left.members → Stands c w
     → before ≡ get_or c.left.members at before → ((p : Placed) → slice_get w.nodes at ≡ Some p → g (Some p) ≡ f p.state) → ((s : NodeState) → NodeStands before.node s → a ≡ f s) → a ≡ g (slice_get w.nodes at)

@@ -3,7 +3,7 @@ use Rattle.std.specs.Prelude.{ℕ, zero, suc, ◌≡◌, min, List, [], ◌∷�
 use Rattle.circuit_table.specs.CircuitSets.{facts_at}
 use Rattle.circuit_table.specs.Sets.{end_of}
 use Rattle.radio_base.specs.declared.modulus.LinkModulus.{LinkModulus}
-use Rattle.node_core.specs.Standing.{entries_left, frames_left}
+use Rattle.node_core.specs.Standing.{Kept, NodeStands, entries_left, frames_left}
 use Rattle.node_model.specs.States.{NodeState, fetch_entry, fetch_frame, frames}
 use Rattle.node_model.specs.States as states
 use Rattle.link_table.specs.declared.written.Written.{Written}
@@ -54,6 +54,12 @@ Stops old refusal next = (w : World) → Stands old w → IsRefusal refusal (len
 abbrev pub Runs : Course → Course → (World → World) → Result (Unit {0}) ReplayRefusal → Type 0
 Runs old new next (Ok _) = GoesOn old new next
 Runs old new next (Err refusal) = Stops old refusal next
+
+-- the node that is lent is the one at a place
+abbrev pub NodeLent : Option Kept → Option Placed → Type 0
+NodeLent None None = Unit {0}
+NodeLent (Some n) (Some p) = NodeStands n p.state
+NodeLent _ _ = ⊥
 
 -- ---- steps within a move
 

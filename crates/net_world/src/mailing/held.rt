@@ -9,12 +9,13 @@ ghost use Rattle.circuit_table.specs.Standing.{take_answer};
 ghost use Rattle.net_world.specs.Agents as agents;
 ghost use Rattle.net_model.specs.Mailing as mailing;
 ghost use Rattle.net_model.specs.Mailing.{ends_here};
-ghost use Rattle.net_world.specs.Running.{Stands, course};
+ghost use Rattle.net_world.specs.Running.{NodeLent, Stands, course};
 ghost use Rattle.net_model.specs.World as worlds;
 
 use crate::world::World;
 use ax_address::Call;
 use circuit_l4::{End, EndPhase};
+use node_core::Node;
 use radio_base::NoMemory;
 
 /// A node holds 64 ends at most.
@@ -41,11 +42,7 @@ impl World<'_> {
         ensures { (w : worlds.World) → Stands (course self.now) w
             → result ≡ slice_get (sets.held_ids (ends_here at w)) nth }
     {
-        if at < self.members.len() {
-            self.members[at].node.circuits().held(nth)
-        } else {
-            None
-        }
+        self.node_at(at)?.circuits().held(nth)
     }
 
     /// The end of that number at the node at a place.
@@ -53,11 +50,7 @@ impl World<'_> {
         ensures { (w : worlds.World) → Stands (course self.now) w
             → LentStands (option_copied result) (end_of id (ends_here at w)) }
     {
-        if at < self.members.len() {
-            self.members[at].node.circuits().end(id)
-        } else {
-            None
-        }
+        self.node_at(at)?.circuits().end(id)
     }
 
     /// The node of the partner of that end.
@@ -65,11 +58,7 @@ impl World<'_> {
         ensures { (w : worlds.World) → Stands (course self.now) w
             → result ≡ sets.partner_at (end_of id (ends_here at w)) }
     {
-        if at < self.members.len() {
-            self.members[at].node.circuits().partner(id)
-        } else {
-            None
-        }
+        self.node_at(at)?.circuits().partner(id)
     }
 
     /// Whether a message waits at an end.
@@ -111,15 +100,15 @@ impl World<'_> {
         ensures { (w : worlds.World) → Stands (course self.now) w
             → result ≡ agents.is_requested (end_of id (ends_here at w)) }
     {
-        if at < self.members.len() {
-            self.members[at]
-                .node
-                .circuits()
-                .requested(id)
-                .unwrap_or(false)
-        } else {
-            false
-        }
+        self.requested_at(at, id).unwrap_or(false)
+    }
+
+    /// Whether the node at a place asked for the circuit of an end, where it holds the end.
+    fn requested_at(&self, at: usize, id: u64) -> Option<bool>
+        ensures { (w : worlds.World) → Stands (course self.now) w
+            → result ≡ sets.requested_at (end_of id (ends_here at w)) }
+    {
+        self.node_at(at)?.circuits().requested(id)
     }
 
     fn is_up(&self, at: usize, id: u64) -> bool
@@ -130,6 +119,15 @@ impl World<'_> {
             Some(end) => is_up(end.facts().phase),
             None => false,
         }
+    }
+
+    /// The node at a place, where there is one.
+    fn node_at(&self, at: usize) -> Option<&Node>
+        ensures { (w : worlds.World) → Stands (course self.now) w
+            → NodeLent (option_copied result) (slice_get w.nodes at) }
+    {
+        let member = self.members.get(at)?;
+        Some(&member.node)
     }
 }
 

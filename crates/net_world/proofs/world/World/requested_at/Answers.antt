@@ -1,0 +1,14 @@
+use Rattle.std.proofs.Common.{◌≡◌, refl}
+use Rattle.std.specs.Prelude.{None, slice_get}
+use Rattle.circuit_table.specs.CircuitSets.{requested_at}
+use Rattle.circuit_table.specs.Sets.{end_of}
+use Rattle.net_world.proofs.Looking.{looks, looks_none}
+use Rattle.net_world.proofs.world.World.requested_at.Goals as goal
+
+pub returns : goal.returns
+returns c = λ w t.
+    looks (slice_get w.nodes c.args.at) c.in_some-node_at.value.now c.circuits.result.now (λ hs. c.requested.result ≡ requested_at (end_of c.args.id hs)) (c.in_some-node_at.ensures w t)
+    c.circuits.ensures.stands c.requested.ensures
+
+pub returns-in_none-node_at : goal.returns-in_none-node_at
+returns-in_none-node_at c = λ w t. looks_none (slice_get w.nodes c.args.at) (λ hs. None ≡ requested_at (end_of c.args.id hs)) (c.in_none-node_at.ensures w t) refl
