@@ -21,7 +21,7 @@ use radio_base::{LinkModulus, Moment, NoMemory};
 
 impl World<'_> {
     /// The node of that number hears a broadcast.
-    pub fn hear_broadcast(
+    pub(crate) fn hear_broadcast(
         &mut self,
         line: u32,
         number: u8,
@@ -37,7 +37,7 @@ impl World<'_> {
     }
 
     /// A node's user acts, or it is told why that isn't done.
-    pub fn act(&mut self, line: u32, number: u8, act: &UserAct) -> Result<(), ReplayRefusal>
+    pub(crate) fn act(&mut self, line: u32, number: u8, act: &UserAct) -> Result<(), ReplayRefusal>
         ensures { Runs (course self.old) (course self.new)
             (lines.do_act line number (act_of act.now) lines.events_of_act) result }
     {
@@ -62,7 +62,12 @@ impl World<'_> {
     }
 
     /// The link of a node with a neighbour fails.
-    pub fn fail_link(&mut self, line: u32, number: u8, peer: Call) -> Result<(), ReplayRefusal>
+    pub(crate) fn fail_link(
+        &mut self,
+        line: u32,
+        number: u8,
+        peer: Call,
+    ) -> Result<(), ReplayRefusal>
         ensures { Runs (course self.old) (course self.new)
             (lines.do_act line number (acts.LinkFail peer) lines.events_of_act) result }
     {
@@ -70,7 +75,7 @@ impl World<'_> {
     }
 
     /// An end is closed.
-    pub fn close(&mut self, line: u32, number: u8, end: u32) -> Result<(), ReplayRefusal>
+    pub(crate) fn close(&mut self, line: u32, number: u8, end: u32) -> Result<(), ReplayRefusal>
         ensures { Runs (course self.old) (course self.new)
             (lines.do_act line number (acts.Close end) lines.events_of_act) result }
     {
@@ -78,7 +83,13 @@ impl World<'_> {
     }
 
     /// A text is written at an end, as a message, unless the end is an agent's.
-    pub fn say(&mut self, line: u32, number: u8, end: u32, text: &[u8]) -> Result<(), ReplayRefusal>
+    pub(crate) fn say(
+        &mut self,
+        line: u32,
+        number: u8,
+        end: u32,
+        text: &[u8],
+    ) -> Result<(), ReplayRefusal>
         ensures { Runs (course self.old) (course self.new)
             (mailing.unless_agents line number end []
             (lines.do_act line number (acts.Write end text.now) lines.events_of_act)) result }
@@ -95,7 +106,7 @@ impl World<'_> {
     }
 
     /// A message is taken from an end, unless the end is an agent's.
-    pub fn take(&mut self, line: u32, number: u8, end: u32) -> Result<(), ReplayRefusal>
+    pub(crate) fn take(&mut self, line: u32, number: u8, end: u32) -> Result<(), ReplayRefusal>
         ensures { Runs (course self.old) (course self.new)
             (mailing.unless_agents line number end []
             (lines.do_act line number (acts.Take end) (lines.took_of number end))) result }
@@ -138,7 +149,7 @@ impl World<'_> {
     }
 
     /// The table of the node of that number is shown.
-    pub fn show(&mut self, line: u32, number: u8) -> Result<(), NoMemory>
+    pub(crate) fn show(&mut self, line: u32, number: u8) -> Result<(), NoMemory>
         ensures { OnOk result (GoesOn (course self.old) (course self.new) (lines.show line number)) }
     {
         let at = self.place_of(number);
@@ -167,7 +178,7 @@ impl World<'_> {
     }
 
     /// Time goes on, and each node is told, by number.
-    pub fn tick(&mut self, line: u32, milliseconds: u32) -> Result<(), ReplayRefusal>
+    pub(crate) fn tick(&mut self, line: u32, milliseconds: u32) -> Result<(), ReplayRefusal>
         ensures { Runs (course self.old) (course self.new) (lines.tick line milliseconds) result }
     {
         self.time = Moment(self.time.0.saturating_add(milliseconds as u64));

@@ -17,7 +17,7 @@ use radio_base::{LinkModulus, NoMemory};
 
 impl World<'_> {
     /// The decimal texts from 1 to `count` are written at an end, up to the first that is refused; none where the end is an agent's.
-    pub fn burst(
+    pub(crate) fn burst(
         &mut self,
         line: u32,
         number: u8,

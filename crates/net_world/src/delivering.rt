@@ -12,7 +12,7 @@ use radio_base::{LinkModulus, NoMemory};
 
 impl World<'_> {
     /// Settles an unsettled frame, which goes to a node, or tells why not.
-    pub fn deliver(&mut self, line: u32, frame: u32, node: u8) -> Result<(), ReplayRefusal>
+    pub(crate) fn deliver(&mut self, line: u32, frame: u32, node: u8) -> Result<(), ReplayRefusal>
         ensures { Runs (course self.old) (course self.new) (lines.deliver line frame node) result }
     {
         match self.air.delivery_fault(self.channels, frame, false, node) {
@@ -29,7 +29,7 @@ impl World<'_> {
     }
 
     /// A settled frame goes to a node again, or it is told why not.
-    pub fn repeat(&mut self, line: u32, frame: u32, node: u8) -> Result<(), ReplayRefusal>
+    pub(crate) fn repeat(&mut self, line: u32, frame: u32, node: u8) -> Result<(), ReplayRefusal>
         ensures { Runs (course self.old) (course self.new) (lines.repeat line frame node) result }
     {
         match self.air.delivery_fault(self.channels, frame, true, node) {
@@ -42,7 +42,7 @@ impl World<'_> {
     }
 
     /// Settles an unsettled frame, which goes nowhere, or tells why not.
-    pub fn lose(&mut self, line: u32, frame: u32) -> Result<(), NoMemory>
+    pub(crate) fn lose(&mut self, line: u32, frame: u32) -> Result<(), NoMemory>
         ensures { OnOk result (GoesOn (course self.old) (course self.new) (lines.lose line frame)) }
     {
         match self.air.lost_fault(frame, false) {
@@ -91,7 +91,7 @@ impl World<'_> {
     }
 
     /// So many times, the oldest unsettled frame is settled and goes to each node that hears its sender.
-    pub fn flow(&mut self, line: u32, count: u32) -> Result<(), ReplayRefusal>
+    pub(crate) fn flow(&mut self, line: u32, count: u32) -> Result<(), ReplayRefusal>
         ensures { Runs (course self.old) (course self.new) (lines.flow line count) result }
     {
         for _ in 0..count {
@@ -153,7 +153,7 @@ impl World<'_> {
     }
 
     /// So many times, settles the oldest unsettled frame, which goes nowhere.
-    pub fn cut(&mut self, line: u32, count: u32) -> Result<(), NoMemory>
+    pub(crate) fn cut(&mut self, line: u32, count: u32) -> Result<(), NoMemory>
         ensures { OnOk result (GoesOn (course self.old) (course self.new) (lines.cut line count)) }
     {
         for _ in 0..count {

@@ -19,7 +19,7 @@ use node_core::UserAct;
 
 impl World<'_> {
     /// Does one instruction after another.
-    pub fn do_all(
+    pub(crate) fn do_all(
         &mut self,
         network: &Network,
         instructions: &[NumberedInstruction],

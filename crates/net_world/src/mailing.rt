@@ -22,7 +22,7 @@ use radio_base::{LinkModulus, NoMemory};
 
 impl World<'_> {
     /// A mail is posted at the node of that number, or it is told why it isn't.
-    pub fn post(
+    pub(crate) fn post(
         &mut self,
         line: u32,
         node: u8,
@@ -48,7 +48,7 @@ impl World<'_> {
     }
 
     /// Tells why a line isn't done.
-    pub fn refuse(&mut self, line: u32, why: LineRefusal) -> Result<(), NoMemory>
+    pub(crate) fn refuse(&mut self, line: u32, why: LineRefusal) -> Result<(), NoMemory>
         ensures { OnOk result (GoesOn (course self.old) (course self.new)
             (worlds.tell line (events.Refused why ∷ []))) }
     {
@@ -57,7 +57,7 @@ impl World<'_> {
     }
 
     /// Whether the node of that number keeps mail and holds that end: so the end is its agent's.
-    pub fn is_agents(&self, number: u8, end: u32) -> bool
+    pub(crate) fn is_agents(&self, number: u8, end: u32) -> bool
         ensures { (w : worlds.World) → Stands (course self.now) w → result ≡ mailing.is_agents number end w }
     {
         let at = self.place_of(number);
@@ -65,7 +65,7 @@ impl World<'_> {
     }
 
     /// A turn of the agent of the node of that number. It takes in what waits at its ends, and offers what is queued.
-    pub fn mail(&mut self, line: u32, node: u8) -> Result<(), ReplayRefusal>
+    pub(crate) fn mail(&mut self, line: u32, node: u8) -> Result<(), ReplayRefusal>
         ensures { Runs (course self.old) (course self.new) (mailing.mail line node) result }
     {
         let at = self.place_of(node);

@@ -28,14 +28,19 @@ use radio_base::{LinkModulus, NoMemory};
 
 impl World<'_> {
     /// The place of the node of that number, or how many nodes there are.
-    pub fn place_of(&self, number: u8) -> usize
+    pub(crate) fn place_of(&self, number: u8) -> usize
         ensures { result ≡ position_or_len (is_member number) self.now.members.items }
     {
         place_of(&self.members, number)
     }
 
     /// The frame at a place in the air reaches the node at a place, and its entries are told. Its frames stay with it.
-    pub fn frame_reaches(&mut self, line: u32, frame_at: usize, at: usize) -> Result<(), NoMemory>
+    pub(crate) fn frame_reaches(
+        &mut self,
+        line: u32,
+        frame_at: usize,
+        at: usize,
+    ) -> Result<(), NoMemory>
         ensures { (f : Aired) → slice_get self.old.air frame_at ≡ Some f
             → OnOk result (GoesOn (course self.old) (course self.new)
             (worlds.reach line at (worlds.Bytes (kiss_bytes f.octets.items)))) }
@@ -59,7 +64,7 @@ impl World<'_> {
     /// A broadcast reaches the node at a place, and its entries are told. Its frames stay with it. It stands by itself, so that only a
     /// line that is one makes room for its frame.
     #[inline(never)]
-    pub fn broadcast_reaches(
+    pub(crate) fn broadcast_reaches(
         &mut self,
         line: u32,
         at: usize,
@@ -82,7 +87,7 @@ impl World<'_> {
     }
 
     /// The time reaches the node at a place, and its entries are told. Its frames stay with it.
-    pub fn time_reaches(&mut self, line: u32, at: usize) -> Result<(), NoMemory>
+    pub(crate) fn time_reaches(&mut self, line: u32, at: usize) -> Result<(), NoMemory>
         ensures { OnOk result (GoesOn (course self.old) (course self.new) (worlds.reach line at worlds.Time)) }
     {
         if at < self.members.len() {
@@ -96,7 +101,12 @@ impl World<'_> {
 
     /// A user's act reaches the node at a place, and its entries are told: what was done, or why it wasn't. Its frames stay
     /// with it.
-    pub fn act_reaches(&mut self, line: u32, at: usize, act: &UserAct) -> Result<Answer, NoMemory>
+    pub(crate) fn act_reaches(
+        &mut self,
+        line: u32,
+        at: usize,
+        act: &UserAct,
+    ) -> Result<Answer, NoMemory>
         ensures goes { OnOk result (GoesOn (course self.old) (course self.new)
             (worlds.reach line at (worlds.Act (act_of act.now)))) }
         ensures answer { IfOk result (λ answer. (w : worlds.World) → Stands (course self.old) w
@@ -200,7 +210,7 @@ impl World<'_> {
 
     /// Tells an event. There are three for a frame, so that callers take this in, and `put_in_air` too.
     #[inline(always)]
-    pub fn tell(&mut self, line: u32, event: Event) -> Result<(), NoMemory>
+    pub(crate) fn tell(&mut self, line: u32, event: Event) -> Result<(), NoMemory>
         ensures goes { OnOk result (GoesOn (course self.old) (course self.new)
             (worlds.tell line (event_of event ∷ []))) }
         ensures members { self.new.members.items ≡ self.old.members.items }
@@ -214,7 +224,7 @@ impl World<'_> {
     /// Puts all frames of the node at a place in the air, where it is on a channel. A frame that is repeated was written as the
     /// frame that came.
     #[inline(always)]
-    pub fn put_in_air(
+    pub(crate) fn put_in_air(
         &mut self,
         line: u32,
         at: usize,

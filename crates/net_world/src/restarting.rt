@@ -14,7 +14,7 @@ use radio_base::{COUNT_MAX, NoMemory};
 
 impl World<'_> {
     /// The node of that number starts again, at a pair: its ends are lost.
-    pub fn restart(
+    pub(crate) fn restart(
         &mut self,
         network: &Network,
         line: u32,

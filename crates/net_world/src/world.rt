@@ -13,20 +13,20 @@ use std::alloc::Global;
 
 /// A replay while it runs: the channels, the allowance, the nodes by number, the time, the frames in the air, and the events so far.
 #[derive(Drop)]
-pub struct World<'a> {
-    pub alloc: Global,
-    pub channels: &'a [Channel],
+pub(crate) struct World<'a> {
+    pub(crate) alloc: Global,
+    pub(crate) channels: &'a [Channel],
     /// How many overtakers are too many.
-    pub allowance: Allowance,
-    pub members: Vec<Member>,
-    pub time: Moment,
-    pub air: Air,
-    pub ends: Ends,
-    pub events: Vec<NumberedEvent>,
+    pub(crate) allowance: Allowance,
+    pub(crate) members: Vec<Member>,
+    pub(crate) time: Moment,
+    pub(crate) air: Air,
+    pub(crate) ends: Ends,
+    pub(crate) events: Vec<NumberedEvent>,
 }
 
 /// The nodes as they start, at time 0.
-pub fn start(alloc: Global, network: &Network) -> Result<World<'_>, NoMemory>
+pub(crate) fn start(alloc: Global, network: &Network) -> Result<World<'_>, NoMemory>
     ensures stands { IfOk result (λ world. Stands (course world) (worlds.start network.now)) }
     ensures starts { IfOk result (λ _. AreStarts (first_sets network.now)) }
 {

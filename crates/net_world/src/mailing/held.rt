@@ -24,7 +24,7 @@ const MAX_ENDS: usize = 64;
 impl World<'_> {
     /// The ends that the node at a place holds, by number. They are named first, since taking its last message takes an ended end
     /// away.
-    pub fn held_ids(&self, at: usize) -> Result<Vec<u64>, NoMemory>
+    pub(crate) fn held_ids(&self, at: usize) -> Result<Vec<u64>, NoMemory>
         ensures { IfOk result (λ ids. (w : worlds.World) → Stands (course self.now) w
             → ids.items ≡ sets.held_ids (ends_here at w)) }
     {
@@ -46,7 +46,7 @@ impl World<'_> {
     }
 
     /// The end of that number at the node at a place.
-    pub fn end_at(&self, at: usize, id: u64) -> Option<&End>
+    pub(crate) fn end_at(&self, at: usize, id: u64) -> Option<&End>
         ensures { (w : worlds.World) → Stands (course self.now) w
             → LentStands (option_copied result) (end_of id (ends_here at w)) }
     {
@@ -54,7 +54,7 @@ impl World<'_> {
     }
 
     /// The node of the partner of that end.
-    pub fn partner_at(&self, at: usize, id: u64) -> Option<Call>
+    pub(crate) fn partner_at(&self, at: usize, id: u64) -> Option<Call>
         ensures { (w : worlds.World) → Stands (course self.now) w
             → result ≡ sets.partner_at (end_of id (ends_here at w)) }
     {
@@ -62,7 +62,7 @@ impl World<'_> {
     }
 
     /// Whether a message waits at an end.
-    pub fn has_message(&self, at: usize, id: u64) -> bool
+    pub(crate) fn has_message(&self, at: usize, id: u64) -> bool
         ensures { (w : worlds.World) → Stands (course self.now) w
             → result ≡ mailing.waits (take_answer (end_of id (ends_here at w))) }
     {
@@ -73,7 +73,7 @@ impl World<'_> {
     }
 
     /// Whether an end takes a message.
-    pub fn may_write(&self, at: usize, id: u64, message: &[u8]) -> bool
+    pub(crate) fn may_write(&self, at: usize, id: u64, message: &[u8]) -> bool
         ensures { (w : worlds.World) → Stands (course self.now) w → result ≡ mailing.may_write at id message.now w }
     {
         match self.end_at(at, id) {
@@ -83,7 +83,7 @@ impl World<'_> {
     }
 
     /// The node of the partner of an end, where the node asked for the circuit and it is up.
-    pub fn dest_of(&self, at: usize, id: u64) -> Option<Call>
+    pub(crate) fn dest_of(&self, at: usize, id: u64) -> Option<Call>
         ensures { (w : worlds.World) → Stands (course self.now) w
             → result ≡ mailing.dest_of (end_of id (ends_here at w)) }
     {

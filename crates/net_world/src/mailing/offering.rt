@@ -11,7 +11,7 @@ use net_model::{Event, LineAt, Offer, ReplayRefusal, queued_at, queued_count, wi
 
 impl World<'_> {
     /// Offers what is queued at the ends of the node at a place, by number.
-    pub fn offer_at_ends(&mut self, here: LineAt) -> Result<(), ReplayRefusal>
+    pub(crate) fn offer_at_ends(&mut self, here: LineAt) -> Result<(), ReplayRefusal>
         ensures { Runs (course self.old) (course self.new) (mailing.offer_part here.line here.node here.at) result }
     {
         let ids = self.held_ids(here.at)?;

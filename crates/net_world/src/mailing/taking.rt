@@ -25,7 +25,7 @@ const TEXT_AT: usize = 16;
 
 impl World<'_> {
     /// Takes in what waits at the ends of the node at a place, by number. `answers` gets what the line is to answer.
-    pub fn take_at_ends(
+    pub(crate) fn take_at_ends(
         &mut self,
         here: LineAt,
         answers: &mut Vec<Event>,

@@ -20,8 +20,12 @@ loop-written-preserved c =
     let h : at < length old.members.items = c.loop-written.invariant.within in
     record {
       within =
-          omega (arith, h, length-set old.members.items at (record m { node = c.next_frame.new.self }),
-          ap (λ (ms : List Member). length ms) c.in_ok-put_frame.ensures.members);
+          omega (
+            arith,
+            h,
+            length-set old.members.items at (record m { node = c.next_frame.new.self }),
+            ap (λ (ms : List Member). length ms) c.in_ok-put_frame.ensures.members,
+          );
       goes = λ w t.
           let i = c.loop-written.invariant.goes w t in
           let f = c.in-Some.written in

@@ -16,8 +16,12 @@ loop-event-preserved-in_ok-tell-in-Some c =
     let m : Member = c.index_mut.result.now in
     record {
       within =
-          omega (arith, c.loop-event.invariant.within, length-set old.members.items at (record m { node = c.trace_entry.new.self }),
-          ap (λ (ms : List Member). length ms) c.in_ok-tell-in-Some.ensures.members);
+          omega (
+            arith,
+            c.loop-event.invariant.within,
+            length-set old.members.items at (record m { node = c.trace_entry.new.self }),
+            ap (λ (ms : List Member). length ms) c.in_ok-tell-in-Some.ensures.members,
+          );
       goes = λ w t.
           let i = c.loop-event.invariant.goes w t in
           let event = event_of c.in-Some.event in
