@@ -16,7 +16,7 @@ pub enum LookCommand {
 }
 
 /// The command that the words ask for.
-pub fn command_of(words: &[String]) -> Option<LookCommand>
+pub(crate) fn command_of(words: &[String]) -> Option<LookCommand>
     ensures found { IfSome result (AskFor words.now) }
     ensures none { IfNone result ((c : LookCommand) → ¬ AskFor words.now c) }
 {

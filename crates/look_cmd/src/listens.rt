@@ -34,7 +34,7 @@ impl ItemTaker for Hearer {
 /// Tells what a KISS stream carries, read from the source to its end: the lines of each read are written before the next read.
 ///
 /// The status says how it ended, and where the input was refused the notes say why.
-pub fn listen_to_stream<S: Source, K: Sink, N: Sink>(
+pub(crate) fn listen_to_stream<S: Source, K: Sink, N: Sink>(
     alloc: Global,
     modulus: Option<LinkModulus>,
     source: &mut S,

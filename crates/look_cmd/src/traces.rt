@@ -54,7 +54,7 @@ struct Traced {
 /// Reads a network file from the source to its end, and writes the trace of that network to the sink.
 ///
 /// The status says how it ended, and where the input or a line was refused the notes say why.
-pub fn trace_file<S: Source, K: Sink, N: Sink>(
+pub(crate) fn trace_file<S: Source, K: Sink, N: Sink>(
     alloc: Global,
     source: &mut S,
     sink: &mut K,

@@ -1,4 +1,4 @@
 //! What is said where the words are no command's. Used by `top`.
 
 /// All commands with their words.
-pub const USAGE: &str = "usage: listen modulo=auto|8|128 | trace\n";
+pub(crate) const USAGE: &str = "usage: listen modulo=auto|8|128 | trace\n";

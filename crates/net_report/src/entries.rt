@@ -16,7 +16,7 @@ use radio_base::{NoMemory, TextOut};
 use std::alloc::{AllocError, Global};
 
 /// Appends the line of an entry of a node, if it has one. These are the ends that the node ever made.
-pub fn write_entry(
+pub(crate) fn write_entry(
     alloc: Global,
     node: u8,
     ends: &[EndRecord],
@@ -109,7 +109,7 @@ fn write_drop(alloc: Global, node: u8, routed: &Routed, text: &mut TextOut) -> R
 }
 
 /// Appends the line of an end as it was left. One that is held has these facts.
-pub fn write_last(
+pub(crate) fn write_last(
     alloc: Global,
     node: u8,
     id: u64,

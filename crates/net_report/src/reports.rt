@@ -228,7 +228,11 @@ fn write_ends(
 }
 
 /// The last line.
-pub fn write_verdict(alloc: Global, late: Option<Late>, text: &mut TextOut) -> Result<(), NoMemory>
+pub(crate) fn write_verdict(
+    alloc: Global,
+    late: Option<Late>,
+    text: &mut TextOut,
+) -> Result<(), NoMemory>
     ensures { OnOk result (text.new ≡ text.old ++ texts.verdict_line late) }
 {
     match late {

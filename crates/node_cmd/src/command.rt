@@ -26,7 +26,7 @@ pub enum RunCommand {
 
 /// The command that the words ask for.
 #[tactic(auto, unfolding(crate::specs::Words::Declare))]
-pub fn command_of(words: &[String]) -> Option<RunCommand>
+pub(crate) fn command_of(words: &[String]) -> Option<RunCommand>
     ensures found { IfSome result (AskFor words.now) }
     ensures none { IfNone result ((c : RunCommand) → ¬ AskFor words.now c) }
 {

@@ -95,7 +95,7 @@ fn drop_entries(node: &mut Node)
 /// read, and its frames are written before the next read. Where the stream was read to its end the node is left in `ran`.
 ///
 /// The status says how it ended, and where the input was refused the notes say why.
-pub fn run_node<S: Source, K: Sink, N: Sink, C: Clock>(
+pub(crate) fn run_node<S: Source, K: Sink, N: Sink, C: Clock>(
     alloc: Global,
     declared: &LiveNode,
     source: &mut S,

@@ -42,7 +42,7 @@ pub struct NetworkOutcome {
 }
 
 /// Writes what is asked for of the network that a file spells, and leaves what ran.
-pub fn print_network<K: Sink, N: Sink>(
+pub(crate) fn print_network<K: Sink, N: Sink>(
     alloc: Global,
     bytes: &[u8],
     what: Printed,

@@ -14,7 +14,7 @@ use std::alloc::Global;
 /// Reads a network file from the source to its end, writes the report of that network to the sink, and leaves what ran.
 ///
 /// The status says how it ended, and where the input or a line was refused the notes say why.
-pub fn replay_file<S: Source, K: Sink, N: Sink>(
+pub(crate) fn replay_file<S: Source, K: Sink, N: Sink>(
     alloc: Global,
     source: &mut S,
     sink: &mut K,

@@ -13,7 +13,7 @@ use radio_base::Sink;
 use std::alloc::Global;
 
 /// Runs the network that a number is made to, writes the line on it to the sink, and leaves what ran. Nothing is read.
-pub fn soak<K: Sink, N: Sink>(
+pub(crate) fn soak<K: Sink, N: Sink>(
     alloc: Global,
     seed: u64,
     sink: &mut K,

@@ -16,7 +16,7 @@ use std::alloc::Global;
 const LIVE_INTERVAL: u32 = 3_600_000;
 
 /// The declared node, as it starts.
-pub fn live_node(alloc: Global, live: &LiveNode) -> Result<Node, NoMemory>
+pub(crate) fn live_node(alloc: Global, live: &LiveNode) -> Result<Node, NoMemory>
     ensures { IfOk result (λ node. NodeStands node (starting.live_started live.now)) }
 {
     let mut node = Node::new(alloc, live_config(live))?;

@@ -11,7 +11,11 @@ use std::alloc::Global;
 use text_lines::shown_text;
 
 /// Appends the line by which a report tells of an event, where that is made of what the event holds alone.
-pub fn write_event_line(alloc: Global, event: &Event, text: &mut TextOut) -> Result<(), NoMemory>
+pub(crate) fn write_event_line(
+    alloc: Global,
+    event: &Event,
+    text: &mut TextOut,
+) -> Result<(), NoMemory>
     ensures { OnOk result (text.new ≡ text.old ++ lines.event_line (event_of event.now)) }
 {
     match event {

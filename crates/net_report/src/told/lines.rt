@@ -10,7 +10,7 @@ use radio_base::{NoMemory, TextOut};
 use std::alloc::{AllocError, Global};
 
 /// Appends a line.
-pub fn write_line(line: String, text: &mut TextOut) -> Result<(), NoMemory>
+pub(crate) fn write_line(line: String, text: &mut TextOut) -> Result<(), NoMemory>
     ensures { OnOk result (text.new ≡ text.old ++ string_bytes line) }
 {
     text.text(line.as_str())?;
@@ -18,7 +18,7 @@ pub fn write_line(line: String, text: &mut TextOut) -> Result<(), NoMemory>
 }
 
 /// `link N CALL WHAT`
-pub fn link_line(
+pub(crate) fn link_line(
     alloc: Global,
     node: u8,
     peer: &Call,
@@ -33,7 +33,7 @@ pub fn link_line(
 }
 
 /// `event N X opened CALL window W`, or `event N X WHAT`
-pub fn notice_line(
+pub(crate) fn notice_line(
     alloc: Global,
     node: u8,
     end: u64,
@@ -59,14 +59,14 @@ fn what_line(alloc: Global, node: u8, end: u64, what: &str) -> Result<String, Al
 }
 
 /// `dropped N WHY`
-pub fn dropped_line(alloc: Global, node: u8, why: &str) -> Result<String, AllocError>
+pub(crate) fn dropped_line(alloc: Global, node: u8, why: &str) -> Result<String, AllocError>
     ensures { IfOk result (λ s. string_bytes s ≡ lines.dropped_line node why.now) }
 {
     format!(in alloc; "dropped {node} {why}\n")
 }
 
 /// `end N X CALL PHASE wrote=M received=M acked=F`, where an end that a restart took away is `lost`.
-pub fn end_line(
+pub(crate) fn end_line(
     alloc: Global,
     node: u8,
     end: u64,

@@ -6,7 +6,7 @@ use net_model::StoredMail;
 use std::alloc::{AllocError, Global};
 
 /// `stored N ORIGIN NUMBER TO LEN`
-pub fn stored_line(alloc: Global, node: u8, mail: &StoredMail) -> Result<String, AllocError>
+pub(crate) fn stored_line(alloc: Global, node: u8, mail: &StoredMail) -> Result<String, AllocError>
     ensures { IfOk result (λ s. string_bytes s
         ≡ mails.stored_line node mail.now.origin mail.now.number mail.now.to mail.now.len) }
 {
@@ -20,7 +20,7 @@ pub fn stored_line(alloc: Global, node: u8, mail: &StoredMail) -> Result<String,
 }
 
 /// `mail N queued=Q stored=S`
-pub fn mail_line(
+pub(crate) fn mail_line(
     alloc: Global,
     node: u8,
     queued: usize,

@@ -15,7 +15,7 @@ use std::alloc::{AllocError, Global};
 type Line = ArrayString<80>;
 
 /// A node's table, and its routes.
-pub fn write_table(alloc: Global, table: &Table, text: &mut TextOut) -> Result<(), NoMemory>
+pub(crate) fn write_table(alloc: Global, table: &Table, text: &mut TextOut) -> Result<(), NoMemory>
     ensures { OnOk result (text.new ≡ text.old ++ texts.table_text table.now) }
 {
     let line = table_line(alloc, table)?;

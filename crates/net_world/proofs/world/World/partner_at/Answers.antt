@@ -7,8 +7,8 @@ use Rattle.net_world.proofs.world.World.partner_at.Goals as goal
 
 pub returns : goal.returns
 returns c = λ w t.
-    looks (slice_get w.nodes c.args.at) c.in_some-node_at.value.now c.circuits.result.now (λ hs. c.partner.result ≡ partner_at (end_of c.args.id hs)) (c.in_some-node_at.ensures w t)
+    looks (slice_get w.nodes c.args.at) c.in_ok-node_at.field-0.now c.circuits.result.now (λ hs. c.partner.result ≡ partner_at (end_of c.args.id hs)) (c.in_ok-node_at.ensures w t)
     c.circuits.ensures.stands c.partner.ensures
 
-pub returns-in_none-node_at : goal.returns-in_none-node_at
-returns-in_none-node_at c = λ w t. looks_none (slice_get w.nodes c.args.at) (λ hs. None ≡ partner_at (end_of c.args.id hs)) (c.in_none-node_at.ensures w t) refl
+pub returns-in_err-node_at : goal.returns-in_err-node_at
+returns-in_err-node_at c = rw c.from_residual.ensures (λ w t. looks_none (slice_get w.nodes c.args.at) (λ hs. None ≡ partner_at (end_of c.args.id hs)) (c.in_err-node_at.ensures w t) refl)

@@ -1,13 +1,14 @@
-use Rattle.std.proofs.Common.{◌≡◌, ◌<◌, ◌≤◌, ◌∙◌, List, ap, refl, subst, arith, length}
+use Rattle.std.proofs.Common.{◌≡◌, ◌<◌, ◌≤◌, ◌∙◌, List, ap, refl, subst, sym, arith, length}
 use Rattle.std.proofs.lemmas.List.{length-set}
 use Rattle.std.specs.Prelude.{None, Some, slice_get}
 use Rattle.std.proofs.lemmas.Result.{err_from_is_err_and}
 use Rattle.node_model.specs.States.{NodeState, frames}
+use Rattle.node_core.specs.Standing.{frames_left}
 use Rattle.net_model.specs.declared.members.Member.{Member}
-use Rattle.net_world.specs.Running.{Stands, aired_one, airs, change, course, fetched_frame, first_frame, put_by}
+use Rattle.net_world.specs.Running.{Stands, aired_one, airs, change, course, fetched_frame, first_frame, frames_at, put_by}
 use Rattle.net_model.specs.World.{World}
 use Rattle.net_world.proofs.Airing.{no_frame, one_frame, put_by_grows}
-use Rattle.net_world.proofs.Placing.{asked, changed}
+use Rattle.net_world.proofs.Placing.{asked, changed, frames_got, frames_set}
 use Rattle.net_world.proofs.Runs.{refused_still}
 use Rattle.net_world.proofs.world.World.put_frames.Goals as goal
 
@@ -38,6 +39,15 @@ loop-written-preserved c =
             one_frame line at c.args.node c.args.on_air c.args.came i.0 f first ∙ i.2,
           );
     }
+
+pub loop-written-smaller : goal.loop-written-smaller
+loop-written-smaller c =
+    let ms = c.loop-written.self.members.items in
+    let at = c.args.at in
+    let m : Member = c.index_mut.result.now in
+    let h : at < length ms = c.loop-written.invariant.within in
+    let before : frames_at at ms ≡ frames_left m.node = frames_got ms at m h ∙ ap (λ (x : Member). frames_left x.node) (sym c.index_mut.ensures.value) in
+    rw (c.in_ok-put_frame.ensures.members, frames_set ms at (record m { node = c.next_frame.new.self }) h, before) c.in-Some.ensures.left
 
 pub returns-in_err-put_frame : goal.returns-in_err-put_frame
 returns-in_err-put_frame c =

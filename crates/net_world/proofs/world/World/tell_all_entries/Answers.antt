@@ -33,3 +33,6 @@ loop-event-preserved-in_ok-tell-in-Some c =
             one_event line at i.0 event first ∙ i.2,
           );
     }
+
+pub loop-event-smaller-in_ok-tell-in-Some : goal.loop-event-smaller-in_ok-tell-in-Some
+loop-event-smaller-in_ok-tell-in-Some c = ?

@@ -46,4 +46,4 @@ returns-in_ok-tell-in-Some-clause-left c = λ told.
     let at = c.args.at in
     let m : Member = c.index_mut.result.now in
     let before : entries_at at ms ≡ entries_left m.node = entries_got ms at m c.requires ∙ ap (λ (x : Member). entries_left x.node) (sym c.index_mut.ensures.value) in
-    rw (c.in_ok-tell-in-Some.ensures.members, entries_set ms at (record m { node = c.trace_entry.new.self }) c.requires, before) (rw c.in-Some.is at c.trace_entry.ensures.left)
+    rw (c.in_ok-tell-in-Some.ensures.members, entries_set ms at (record m { node = c.trace_entry.new.self }) c.requires, before) c.in-Some.ensures.left
