@@ -25,7 +25,7 @@ same_after now later (Bytes bytes) n e =
 same_after now later Time n e = ap (λ m. record n { station = after_input m (tick m n.station) }) (same_moment now later e)
 same_after now later (Act act) n e = ap (λ m. record n { station = (settled_act m act n.station).node }) (same_moment now later e)
 
-pub stepped : (c : Course) (w : World) (at : ℕ) (input : Input) (before : Member) (n : Kept) → at < length c.left.members → Stands c w → before ≡ get_or c.left.members at before
+stepped : (c : Course) (w : World) (at : ℕ) (input : Input) (before : Member) (n : Kept) → at < length c.left.members → Stands c w → before ≡ get_or c.left.members at before
     → ((s : NodeState) → NodeStands before.node s → NodeStands n (after c.now input s)) → Stands (with_node c at before n) (change at (after w.now input) w)
 stepped c w at input before n h t here goes =
     changed c w at before n (after w.now input) h t here

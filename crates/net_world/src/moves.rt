@@ -113,25 +113,13 @@ impl World<'_> {
             → IsAnswerTo answer (worlds.answer at (act_of act.now) w)) }
     {
         if at < self.members.len() {
-            let answer = self.act_at(at, act)?;
+            let outcome = self.members[at].node.act(act, self.time);
+            let answer = answer_of(outcome)?;
             self.tell_entries(line, at)?;
             Ok(answer)
         } else {
             Ok(Answer::Done)
         }
-    }
-
-    /// A user's act reaches the node at a place.
-    fn act_at(&mut self, at: usize, act: &UserAct) -> Result<Answer, NoMemory>
-        requires { at < length self.old.members.items }
-        ensures goes { OnOk result ((w : worlds.World) → Stands (course self.old) w
-            → Stands (course self.new) (running.change at (worlds.after w.now (worlds.Act (act_of act.now))) w)) }
-        ensures answer { IfOk result (λ answer. (w : worlds.World) → Stands (course self.old) w
-            → IsAnswerTo answer (worlds.answer at (act_of act.now) w)) }
-    {
-        let outcome = self.members[at].node.act(act, self.time);
-        let answer = answer_of(outcome)?;
-        Ok(answer)
     }
 
     /// Tells what the node at a place has to tell.

@@ -8,7 +8,7 @@ use Rattle.net_model.specs.declared.members.Member.{Member}
 use Rattle.net_world.specs.Running.{Stands, aired_one, airs, change, course, fetched_frame, first_frame, frames_at, put_by}
 use Rattle.net_model.specs.World.{World}
 use Rattle.net_world.proofs.Airing.{no_frame, one_frame, put_by_grows}
-use Rattle.net_world.proofs.Placing.{asked, changed, frames_got, frames_set}
+use Rattle.net_world.proofs.Placing.{asked, changed, frames_got, frames_set, with_node}
 use Rattle.net_world.proofs.Runs.{refused_still}
 use Rattle.net_world.proofs.world.World.put_frames.Goals as goal
 
@@ -79,4 +79,4 @@ returns c = λ w t.
     let fetched = changed old i.0 at m c.next_frame.new.self fetched_frame h i.1 c.index_mut.ensures.value c.in_default.ensures.goes in
     let none : None ≡ first_frame (slice_get i.0.nodes at) =
     asked old i.0 at m (λ (n : NodeState). slice_get (frames n.station) 0) first_frame _ h i.1 c.index_mut.ensures.value (λ p is. refl) c.in_default.ensures.answer in
-    subst (λ v. Stands _ v) (no_frame c.args.line at c.args.node c.args.on_air c.args.came i.0 none ∙ i.2) fetched
+    subst (λ v. Stands (with_node old at m c.next_frame.new.self) v) (no_frame c.args.line at c.args.node c.args.on_air c.args.came i.0 none ∙ i.2) fetched

@@ -9,7 +9,7 @@ use Rattle.net_model.specs.declared.members.Member.{Member}
 use Rattle.net_world.specs.Running.{Stands, change, course, entries_at, entry_events, fetched_entry, first_entry}
 use Rattle.net_model.specs.World.{World, tell}
 use Rattle.net_world.proofs.Entering.{entry_told, no_entry, one_entry}
-use Rattle.net_world.proofs.Placing.{asked, changed, entries_got, entries_set}
+use Rattle.net_world.proofs.Placing.{asked, changed, entries_got, entries_set, with_node}
 use Rattle.net_world.proofs.world.World.tell_one.Goals as goal
 
 pub returns-in_ok-tell-in-Some-clause-told : goal.returns-in_ok-tell-in-Some-clause-told
@@ -38,7 +38,7 @@ returns-in-None-clause-none c = λ told w t.
     let goes = changed old w at m c.trace_entry.new.self fetched_entry c.requires t c.index_mut.ensures.value c.trace_entry.ensures.goes in
     let none : None ≡ first_entry (slice_get w.nodes at) =
     rw c.in-None.is at (asked old w at m (λ (n : NodeState). slice_get n.station.entries 0) first_entry _ c.requires t c.index_mut.ensures.value (λ p is. refl) c.trace_entry.ensures.answer) in
-    subst (λ v. Stands _ v) (no_entry c.args.line at w none) goes
+    subst (λ v. Stands (with_node old at m c.trace_entry.new.self) v) (no_entry c.args.line at w none) goes
 
 pub returns-in_ok-tell-in-Some-clause-left : goal.returns-in_ok-tell-in-Some-clause-left
 returns-in_ok-tell-in-Some-clause-left c = λ told.
