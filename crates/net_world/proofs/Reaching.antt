@@ -12,7 +12,7 @@ use Rattle.net_world.specs.Running.{Course, GoesOn, Stands, all_entries, change}
 use Rattle.net_model.specs.Starting.{Placed}
 use Rattle.net_model.specs.World.{Act, Bytes, Input, Time, World, after, answer, reach}
 use Rattle.net_world.proofs.Entering.{reach_is}
-use Rattle.net_model.proofs.Looks.{answers, reaches}
+use Rattle.net_model.proofs.Looks.{answers}
 use Rattle.net_world.proofs.Placing.{at_place, changed, past_place, same_moment, with_node}
 use Rattle.net_model.proofs.LineWalks.{reach_none}
 use Rattle.net_model.specs.declared.members.Member.{Member}

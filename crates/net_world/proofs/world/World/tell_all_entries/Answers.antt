@@ -1,6 +1,6 @@
-use Rattle.std.proofs.Common.{◌≡◌, ◌<◌, ◌∙◌, List, [], ◌∷◌, ap, arith, false, length, refl, subst, sym, true}
+use Rattle.std.proofs.Common.{◌≡◌, ◌<◌, ◌∙◌, List, [], ◌∷◌, ap, arith, false, length, not, refl, subst, sym, true}
 use Rattle.std.proofs.lemmas.List.{length-set}
-use Rattle.std.specs.Prelude.{IfSome, None, Option, Some, is_none, slice_get}
+use Rattle.std.specs.Prelude.{IfSome, None, Option, Some, is_some, slice_get}
 use Rattle.std.specs.Option.{option_map}
 use Rattle.node_core.specs.Standing.{entries_left, entry_of}
 use Rattle.node_core.specs.declared.entry.NodeEntry.{NodeEntry}
@@ -14,11 +14,11 @@ use Rattle.net_world.proofs.Placing.{asked, changed, entries_got, entries_set, w
 use Rattle.net_world.proofs.world.World.tell_all_entries.Goals as goal
 
 -- what is said of a thing that was fetched, where one was
-left_of_some : {A : Type 0} (r : Option A) (P : Type 0) → is_none r ≡ false → IfSome r (λ x. P) → P
+left_of_some : {A : Type 0} (r : Option A) (P : Type 0) → true ≡ is_some r → IfSome r (λ x. P) → P
 left_of_some None P some h = absurd (cc)
 left_of_some (Some x) P some h = h
 
-none_fetched : (r : Option NodeEntry) (o : Option Entry) → is_none r ≡ true → option_map entry_of r ≡ o → None ≡ o
+none_fetched : (r : Option NodeEntry) (o : Option Entry) → false ≡ is_some r → option_map entry_of r ≡ o → None ≡ o
 none_fetched None o none e = e
 none_fetched (Some x) o none e = absurd (cc)
 
@@ -54,7 +54,7 @@ loop-event-smaller-in_ok-tell-in-Some c =
     let at = c.args.at in
     let m : Member = c.index_mut.result.now in
     let h : at < length ms = c.loop-event.invariant.within in
-    let left = left_of_some c.trace_entry.result (entries_left c.trace_entry.new.self < entries_left m.node) (sym c.is_none.ensures ∙ c.if-is_none.false) c.trace_entry.ensures.left in
+    let left = left_of_some c.trace_entry.result (entries_left c.trace_entry.new.self < entries_left m.node) (sym (c.is_none.ensures ∙ ap not c.if-is_none.false)) c.trace_entry.ensures.left in
     let before : entries_at at ms ≡ entries_left m.node = entries_got ms at m h ∙ ap (λ (x : Member). entries_left x.node) (sym c.index_mut.ensures.value) in
     rw (c.in_ok-tell-in-Some.ensures.members, entries_set ms at (record m { node = c.trace_entry.new.self }) h, before) left
 
@@ -67,6 +67,6 @@ returns-then-is_none c = λ w t.
     let i = c.loop-event.invariant.goes w t in
     let fetched = changed old i.0 at m c.trace_entry.new.self fetched_entry h i.1 c.index_mut.ensures.value c.trace_entry.ensures.goes in
     let none : None ≡ first_entry (slice_get i.0.nodes at) =
-    none_fetched c.trace_entry.result _ (sym c.is_none.ensures ∙ c.if-is_none.true)
+    none_fetched c.trace_entry.result _ (sym (c.is_none.ensures ∙ ap not c.if-is_none.true))
     (asked old i.0 at m (λ (n : NodeState). slice_get n.station.entries 0) first_entry _ h i.1 c.index_mut.ensures.value (λ p is. refl) c.trace_entry.ensures.answer) in
     subst (λ v. Stands (with_node old at m c.trace_entry.new.self) v) (no_entry c.args.line at i.0 none ∙ i.2) fetched

@@ -1,10 +1,8 @@
-use Rattle.std.proofs.Common.{◌≡◌, ◌<◌, ◌∷◌, ◌∙◌, [], List, ap, sym, refl, subst, arith, length}
-use Rattle.std.proofs.lemmas.List.{length-set}
+use Rattle.std.proofs.Common.{◌≡◌, ◌∷◌, ◌∙◌, [], List, ap, sym, refl, subst}
 use Rattle.std.specs.Prelude.{None, Some, slice_get}
-use Rattle.std.specs.Option.{option_map}
 use Rattle.node_model.specs.States.{NodeState}
 use Rattle.node_core.specs.Standing.{entries_left, entry_of}
-use Rattle.net_model.specs.Events.{Entry, Event, event_of}
+use Rattle.net_model.specs.Events.{Event, event_of}
 use Rattle.net_model.specs.declared.members.Member.{Member}
 use Rattle.net_world.specs.Running.{Stands, change, course, entries_at, entry_events, fetched_entry, first_entry}
 use Rattle.net_model.specs.World.{World, tell}
