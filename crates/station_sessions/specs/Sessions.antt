@@ -1,5 +1,5 @@
 -- What is kept of a user of a station, and of what he is connected with. Own profile.
-use Rattle.std.specs.Prelude.{ℕ, List, [], ◌∷◌, ◌++◌, drop, Option, Some, None, Bool, true, false, not, ◌&&◌, ◌||◌, is_some, slice_get}
+use Rattle.std.specs.Prelude.{ℕ, List, [], ◌∷◌, ◌++◌, ◌+◌, drop, length, Option, Some, None, Bool, true, false, not, ◌&&◌, ◌||◌, is_some, slice_get}
 use Rattle.std.specs.Option.{option_map}
 use Rattle.std.specs.Borrow.{Bor}
 use Rattle.ax_address.specs.Callsign.{Callsign}
@@ -56,6 +56,11 @@ far_of (With far) = Some far
 
 abbrev pub lent_far : Option (Bor Far) → Option Far
 lent_far far = option_map (λ f. f.now) far
+
+-- how many octets these texts have
+abbrev pub typed_size : List (List ℕ) → ℕ
+typed_size [] = 0
+typed_size (text ∷ texts) = length text + typed_size texts
 
 abbrev pub is_gone : Presence → Bool
 is_gone Here = false

@@ -1,20 +1,16 @@
 //! A session: a user, and what he is doing. Used by `far_notes` and `thing`, and by the crates that run a station.
-ghost use Rattle.std.specs.Prelude.{◌≡◌, ◌≤◌, [], length, drop, OnOk, Some};
+ghost use Rattle.std.specs.Prelude.{◌≡◌, ◌≤◌, ◌^◌, ◌-◌, [], length, min, drop, OnOk, Some};
 ghost use Rattle.station_sessions.specs.Sessions as sessions;
 ghost use Rattle.station_sessions.specs.declared.far.Stage.TheVariants.{AtPrompt, Trying};
 
 use crate::place::is_same;
 use crate::{Far, Place, Presence, Stage, Unsent};
 use ax_address::Call;
-use l3_datagram::Message;
 use radio_base::{Moment, NoMemory, TextOut};
 use std::alloc::Global;
 use std::collections::VecDeque;
 use std::marker::Model;
 use std::mem;
-
-/// The most bytes of a text.
-const MAX_TEXT: usize = 8192;
 
 /// A user, and what he is doing.
 #[derive(Drop)]
@@ -29,7 +25,7 @@ pub struct Session {
     replies: VecDeque<TextOut>,
     typed: VecDeque<TextOut>,
     /// The text of the user that was taken last, and how many bytes of it are done with.
-    text: Message,
+    text: Vec<u8>,
     done: usize,
     since: Moment,
 }
@@ -79,7 +75,7 @@ impl Session {
             stage: Stage::AtPrompt,
             replies: VecDeque::new(alloc),
             typed: VecDeque::new(alloc),
-            text: Message::new(),
+            text: Vec::new(alloc),
             done: 0,
             since: now,
         }
@@ -162,7 +158,7 @@ impl Session {
     pub fn rest(&self) -> &[u8]
         ensures { result.now ≡ self.now.rest }
     {
-        &self.text.as_slice()[self.done..]
+        &self.text[self.done..]
     }
 
     /// Whether anything of it is left.
@@ -226,12 +222,10 @@ impl Session {
     }
 
     /// This text was taken from the user.
-    pub fn begin(&mut self, text: &[u8], now: Moment)
-        requires { length text.now ≤ 8192 }
-        ensures { self.new ≡ sessions.begin text.now now.0 self.old }
+    pub fn begin(&mut self, text: Vec<u8>, now: Moment)
+        ensures { self.new ≡ sessions.begin text.items now.0 self.old }
     {
-        self.text = Message::new();
-        let _ = self.text.try_extend_from_slice(text);
+        self.text = text;
         self.done = 0;
         self.since = now;
     }
@@ -241,8 +235,6 @@ impl Session {
         requires { size ≤ length self.old.rest }
         ensures { self.new ≡ sessions.cut size self.old }
     {
-        let fits = self.text.len() <= MAX_TEXT;
-        prove!(fits);
         self.done += size;
     }
 
@@ -277,8 +269,11 @@ impl Session {
         Ok(())
     }
 
-    /// How many bytes were typed and weren't taken.
-    pub fn typed_size(&self) -> usize {
+    /// How many bytes were typed and weren't taken; at most 2^64 - 1 are counted.
+    #[tactic(auto, using(crate::proofs::Counting::counts_next, crate::proofs::Counting::counts_end))]
+    pub fn typed_size(&self) -> usize
+        ensures { result ≡ min (sessions.typed_size self.now.typed) (2 ^ 64 - 1) }
+    {
         let mut size: usize = 0;
         for text in self.typed.iter() {
             size = size.saturating_add(text.bytes().len());
