@@ -8,7 +8,7 @@ use Rattle.ax_address.proofs.SameCalls.{same_call-true}
 use Rattle.node_mail.specs.Wires.{Receipt, IsWire, IsNumber, wire_octets}
 use Rattle.node_mail.specs.Lists.{Lists, Letter, Mail, letter_of, is_stored, offer}
 use Rattle.node_mail.specs.Runs.{MailRun, Written, with_store, with_written}
-use Rattle.node_mail.specs.MailOnce.{IsKept, posted_as}
+use Rattle.node_mail.specs.MailOnce.{IsKept, posted_with}
 use Rattle.node_mail.proofs.Letters.{Differ}
 
 -- what one node keeps
@@ -40,16 +40,18 @@ Tells s m = TellsMail s m ⊎ TellsReceipt s m
 abbrev pub ToldBy : MailRun → Written → Type 0
 ToldBy w m = (s : Lists) → w.store_of m.writer ≡ Some s → Tells s m
 
-abbrev pub CameFrom : MailRun → Callsign → Mail → Type 0
-CameFrom w d m = (a : Lists) → w.store_of m.origin ≡ Some a → letter_of m.number a.posted ≡ Some (posted_as m d)
+-- R says how the text that a stored mail has is to that which it was posted with
+abbrev pub CameFrom : (List ℕ → List ℕ → Type 0) → MailRun → Callsign → Mail → Type 0
+CameFrom R w d m =
+    (a : Lists) → w.store_of m.origin ≡ Some a → (text : List ℕ) × (letter_of m.number a.posted ≡ Some (posted_with text m d)) × R m.text.items text
 
 abbrev pub Keeps : Callsign → Callsign → Lists → Lists → Type 0
 Keeps o d a b = AllByRecursion (λ (l : Letter). l.dest ≡ d → IsKept o a b l) a.posted
 
-pub record Holds (w : MailRun) : Type 0 where
+pub record Holds (R : List ℕ → List ℕ → Type 0) (w : MailRun) : Type 0 where
   pub sound : (c : Callsign) (s : Lists) → w.store_of c ≡ Some s → Sound c s
   pub told : AllByRecursion (ToldBy w) w.written
-  pub came : (d : Callsign) (b : Lists) → w.store_of d ≡ Some b → AllByRecursion (CameFrom w d) b.stored
+  pub came : (d : Callsign) (b : Lists) → w.store_of d ≡ Some b → AllByRecursion (CameFrom R w d) b.stored
   pub kept : (o d : Callsign) (a b : Lists) → w.store_of o ≡ Some a → w.store_of d ≡ Some b → Keeps o d a b
 
 -- what was posted and what is stored goes on
@@ -90,7 +92,7 @@ pub which : (w : MailRun) (c d : Callsign) (s t : Lists) → (with_store w c s).
 which w c d s t h = which_case w c d s t (same_call d c) refl h
 
 -- one node's store is replaced by s
-module _ (w : MailRun) (c : Callsign) (a s : Lists) (holds : Holds w) (was : w.store_of c ≡ Some a) (grows : Grows a s) where
+module _ (R : List ℕ → List ℕ → Type 0) (w : MailRun) (c : Callsign) (a s : Lists) (holds : Holds R w) (was : w.store_of c ≡ Some a) (grows : Grows a s) where
   v : MailRun
   v = with_store w c s
 
@@ -101,22 +103,22 @@ module _ (w : MailRun) (c : Callsign) (a s : Lists) (holds : Holds w) (was : w.s
   pub before : (d : Callsign) (t : Lists) → (with_store w c s).store_of d ≡ Some t → Before w d t
   before d t h = before_case d t (which w c d s t h)
 
-  came_on : (d : Callsign) (m : Mail) → CameFrom w d m → CameFrom (with_store w c s) d m
-  came_on d m f t h = let b = before m.origin t h in b.grows.posted m.number (posted_as m d) (f b.old b.was)
+  came_on : (d : Callsign) (m : Mail) → CameFrom R w d m → CameFrom R (with_store w c s) d m
+  came_on d m f t h = let b = before m.origin t h in let p = f b.old b.was in (p.0, b.grows.posted m.number (posted_with p.0 m d) p.1, p.2)
 
-  all_came_on : (d : Callsign) (ms : List Mail) → AllByRecursion (CameFrom w d) ms → AllByRecursion (CameFrom (with_store w c s) d) ms
-  all_came_on d ms h = each_map (CameFrom w d) (CameFrom (with_store w c s) d) (came_on d) ms h
+  all_came_on : (d : Callsign) (ms : List Mail) → AllByRecursion (CameFrom R w d) ms → AllByRecursion (CameFrom R (with_store w c s) d) ms
+  all_came_on d ms h = each_map (CameFrom R w d) (CameFrom R (with_store w c s) d) (came_on d) ms h
 
   told_on : (m : Written) → ToldBy w m → ToldBy (with_store w c s) m
   told_on m f t h = let b = before m.writer t h in tells_on b.old t m b.grows (f b.old b.was)
 
-  module _ (sound : Sound c s) (came : AllByRecursion (CameFrom w c) s.stored)
+  module _ (sound : Sound c s) (came : AllByRecursion (CameFrom R w c) s.stored)
       (moves : (d : Callsign) (b : Lists) → w.store_of d ≡ Some b → Keeps c d a b → Keeps c d s b) where
     sound_case : (d : Callsign) (t : Lists) → Replaced c d s t ⊎ (w.store_of d ≡ Some t) → Sound d t
     sound_case d t (inl r) = rw (r.node, r.store) sound
     sound_case d t (inr h) = holds.sound d t h
 
-    came_case : (d : Callsign) (t : Lists) → Replaced c d s t ⊎ (w.store_of d ≡ Some t) → AllByRecursion (CameFrom (with_store w c s) d) t.stored
+    came_case : (d : Callsign) (t : Lists) → Replaced c d s t ⊎ (w.store_of d ≡ Some t) → AllByRecursion (CameFrom R (with_store w c s) d) t.stored
     came_case d t (inl r) = rw (r.node, r.store) (all_came_on c s.stored came)
     came_case d t (inr h) = all_came_on d t.stored (holds.came d t h)
 
@@ -124,7 +126,7 @@ module _ (w : MailRun) (c : Callsign) (a s : Lists) (holds : Holds w) (was : w.s
     kept_case o d t b (inl r) h = rw (r.node, r.store) (moves d b h (holds.kept c d a b was h))
     kept_case o d t b (inr k) h = holds.kept o d t b k h
 
-    pub replaced : Holds (with_store w c s)
+    pub replaced : Holds R (with_store w c s)
     replaced = record {
       sound = λ d t h. sound_case d t (which w c d s t h);
       told = each_map (ToldBy w) (ToldBy (with_store w c s)) told_on w.written holds.told;
@@ -133,8 +135,8 @@ module _ (w : MailRun) (c : Callsign) (a s : Lists) (holds : Holds w) (was : w.s
     }
 
 -- a message is written
-pub said : (w : MailRun) (writer addressee : Callsign) (octets : List ℕ) → Holds w → ToldBy w (record { writer = writer; addressee = addressee; octets = octets }) → Holds (with_written w writer addressee octets)
-said w writer addressee octets holds told = record {
+pub said : (R : List ℕ → List ℕ → Type 0) (w : MailRun) (writer addressee : Callsign) (octets : List ℕ) → Holds R w → ToldBy w (record { writer = writer; addressee = addressee; octets = octets }) → Holds R (with_written w writer addressee octets)
+said R w writer addressee octets holds told = record {
   sound = holds.sound;
   told = each_push (ToldBy w) w.written (record { writer = writer; addressee = addressee; octets = octets }) holds.told told;
   came = holds.came;

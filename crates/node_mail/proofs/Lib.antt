@@ -4,5 +4,6 @@ pub mod Mailboxes
 pub mod Spelling
 pub mod Holding
 pub mod Steps
+pub mod Killing
 pub mod Once
 pub mod Asked

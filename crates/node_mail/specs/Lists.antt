@@ -1,9 +1,10 @@
 -- What a node keeps of mail, what each call does to it, and when what a store keeps stands for it. Own profile.
-use Rattle.std.specs.Prelude.{ℕ, ◌+◌, List, [], ◌∷◌, ◌++◌, length, drop, filter, Bool, ◌&&◌, ◌==◌, not, nat_lt, nat_le, Option, Some, None, Result, Ok, Err, if◌then◌else◌, ◌≡◌, IsOk}
+use Rattle.std.specs.Prelude.{ℕ, ◌+◌, List, [], ◌∷◌, ◌++◌, length, drop, filter, Bool, false, ◌&&◌, ◌||◌, ◌==◌, not, nat_lt, nat_le, Option, Some, None, Result, Ok, Err, if◌then◌else◌, ◌≡◌, IsOk}
 use Rattle.std.specs.List.{list_any}
 use Rattle.radio_base.specs.declared.modulus.TheConstants.{COUNT_MAX}
 use Rattle.ax_address.specs.Callsign.{Callsign, same_call}
 pub use Rattle.node_mail.specs.declared.mail.Mail.{Mail}
+pub use Rattle.node_mail.specs.declared.mail.MailName.{MailName}
 pub use Rattle.node_mail.specs.declared.heard.Heard.{Heard}
 use Rattle.node_mail.specs.declared.heard.Heard.TheVariants.{Stored, Again, Settled, Stray, Full, Bad}
 pub use Rattle.node_mail.specs.declared.post_refusal.PostRefusal.{PostRefusal}
@@ -17,7 +18,8 @@ pub record Letter : Type 0 where
   pub dest : Callsign
   pub text : List ℕ
 
--- all mails that were posted at the node, those of them that aren't settled, and those of other nodes that are stored
+-- all mails that were posted at the node, those of them that aren't settled, and those of other nodes that were stored,
+-- in the order of storing: one that was killed stays among them, without its text
 pub record Lists : Type 0 where
   pub own : Callsign
   pub posted : List Letter
@@ -46,6 +48,41 @@ is_stored ms origin number = list_any (λ (m : Mail). same_call m.origin origin 
 -- a mail of that number is queued for that node
 abbrev pub is_queued_for : List Letter → Callsign → ℕ → Bool
 is_queued_for ls dest number = list_any (λ (l : Letter). (l.number == number) && same_call l.dest dest) ls
+
+-- a mail that is stored has its text until it is killed
+abbrev pub has_text : Mail → Bool
+has_text m = not (length m.text.items == 0)
+
+-- the mails that have their texts
+abbrev pub with_texts : List Mail → List Mail
+with_texts ms = filter has_text ms
+
+-- 4,096 have their texts, or 65,536 were ever stored
+abbrev pub is_full : List Mail → Bool
+is_full ms = nat_le 4096 (length (with_texts ms)) || nat_le 65536 (length ms)
+
+-- the stored mail from there with that number
+abbrev pub stored_mail : List Mail → Callsign → ℕ → Option Mail
+stored_mail [] origin number = None
+stored_mail (m ∷ ms) origin number =
+    if same_call m.origin origin && (m.number == number) then Some m else stored_mail ms origin number
+
+abbrev pub is_readable : Option Mail → Bool
+is_readable (Some m) = has_text m
+is_readable None = false
+
+abbrev pub is_killed : Option Mail → Bool
+is_killed (Some m) = not (has_text m)
+is_killed None = false
+
+abbrev pub without_text : Mail → Mail
+without_text m = record m { text = record { items = [] } }
+
+-- with that mail killed: its text is gone, and what it was called stays
+abbrev pub killed_in : List Mail → Callsign → ℕ → List Mail
+killed_in [] origin number = []
+killed_in (m ∷ ms) origin number =
+    if same_call m.origin origin && (m.number == number) then without_text m ∷ ms else m ∷ killed_in ms origin number
 
 abbrev pub without : ℕ → List Letter → List Letter
 without number ls = filter (λ (l : Letter). not (l.number == number)) ls
@@ -77,11 +114,15 @@ post_step s to dest text = posted_by s to dest text (post_at s dest text)
 abbrev pub mail_of : Callsign → ℕ → Callsign → List ℕ → Mail
 mail_of origin number to text = record { origin = origin; number = number; to = to; text = record { items = text } }
 
+-- what is kept after a stored mail is killed
+abbrev pub kill_step : Lists → Callsign → ℕ → Lists
+kill_step s origin number = record s { stored = killed_in s.stored origin number }
+
 -- what is heard of a mail, where these are stored, and of a receipt, where these are queued
 abbrev pub mail_heard : List Mail → Callsign → ℕ → Callsign → Heard
 mail_heard stored from number to =
     if is_stored stored from number then Again number
-    else (if nat_le 4096 (length stored) then Full number else Stored number to)
+    else (if is_full stored then Full number else Stored number to)
 
 abbrev pub receipt_heard : List Letter → Callsign → ℕ → Heard
 receipt_heard queued from number = if is_queued_for queued from number then Settled number else Stray number

@@ -6,7 +6,6 @@ ghost use Rattle.node_mail.specs.Wires.{wire_at};
 ghost use Rattle.node_mail.specs.Heads.{wire_of};
 
 use crate::heard::Heard;
-use crate::mail::MAX_STORED;
 use crate::mailbox::Mailbox;
 use crate::queue::Queue;
 use crate::read::read_wire;
@@ -44,7 +43,7 @@ fn would_store(mailbox: &Mailbox, from: &Call, number: u64, to: &Call) -> Heard
 {
     if mailbox.has(from, number) {
         Heard::Again { number }
-    } else if mailbox.len() >= MAX_STORED {
+    } else if mailbox.is_full() {
         Heard::Full { number }
     } else {
         Heard::Stored { number, to: *to }

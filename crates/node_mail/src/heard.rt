@@ -12,7 +12,7 @@ pub enum Heard {
     Settled { number: u64 },
     /// It is a receipt for a number that isn't queued for that node.
     Stray { number: u64 },
-    /// 4,096 mails are stored, and that of this number isn't among them.
+    /// That of this number isn't stored, and 4,096 are stored with their texts, or 65,536 were ever stored.
     Full { number: u64 },
     /// It is neither a mail nor a receipt.
     Bad,

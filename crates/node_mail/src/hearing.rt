@@ -4,7 +4,7 @@ ghost use Rattle.node_mail.specs.Lists as lists;
 ghost use Rattle.node_mail.specs.Lists.{octets_in};
 
 use crate::heard::Heard;
-use crate::mail::{MAX_STORED, Mail};
+use crate::mail::Mail;
 use crate::mailbox::Mailbox;
 use crate::queue::Queue;
 use crate::write::write_receipt;
@@ -34,7 +34,7 @@ pub(crate) fn hear_mail(
         write_receipt(number, out);
         return Ok(Heard::Again { number });
     }
-    if mailbox.len() >= MAX_STORED {
+    if mailbox.is_full() {
         out.clear();
         return Ok(Heard::Full { number });
     }

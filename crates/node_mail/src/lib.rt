@@ -20,7 +20,7 @@ mod wire_head;
 mod write;
 
 pub use heard::Heard;
-pub use mail::{MAX_MAIL, MAX_QUEUED, MAX_STORED, Mail};
+pub use mail::{MAX_EVER_STORED, MAX_MAIL, MAX_QUEUED, MAX_STORED, Mail, MailName};
 pub use post_refusal::PostRefusal;
 pub use store::Store;
 pub use write::write_receipt;

@@ -6,8 +6,10 @@ use ax_address::Call;
 pub const MAX_MAIL: usize = 1024;
 /// The most mails that are queued at a node.
 pub const MAX_QUEUED: usize = 1000;
-/// The most mails that are stored at a node.
+/// The most mails that are stored at a node with their texts.
 pub const MAX_STORED: usize = 4096;
+/// The most mails that were ever stored at a node: of those that were killed it keeps the names.
+pub const MAX_EVER_STORED: usize = 65_536;
 
 /// A mail that is stored at the node of its user.
 #[derive(Debug, Drop)]
@@ -18,13 +20,13 @@ pub struct Mail {
     pub number: u64,
     /// The user for whom it is.
     pub to: Call,
-    /// Its text, of 1 to 1,024 octets.
+    /// Its text, of 1 to 1,024 octets, and empty where it was killed.
     pub text: ArrayVec<u8, MAX_MAIL>,
 }
 
 /// What tells a mail from all others: the node where it was posted, and its number there.
 #[derive(Clone, Copy, Debug, PartialEq, Eq, Hash)]
-pub(crate) struct MailName {
-    pub(crate) origin: Call,
-    pub(crate) number: u64,
+pub struct MailName {
+    pub origin: Call,
+    pub number: u64,
 }

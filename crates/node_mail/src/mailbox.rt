@@ -2,9 +2,9 @@
 //! Called by `hearing` and `store`.
 ghost use Rattle.std.specs.Prelude.{◌≡◌, ◌++◌, ◌∷◌, [], length, slice_get, OnOk, OnErr, false};
 ghost use Rattle.std.specs.Option.{option_copied};
-ghost use Rattle.node_mail.specs.Lists.{is_stored};
+ghost use Rattle.node_mail.specs.Lists.{is_full, is_readable, is_stored, killed_in, stored_mail, with_texts};
 
-use crate::mail::{Mail, MailName};
+use crate::mail::{MAX_EVER_STORED, MAX_STORED, Mail, MailName};
 use ax_address::Call;
 use indexmap::IndexMap;
 use radio_base::NoMemory;
@@ -14,20 +14,23 @@ use std::marker::Model;
 /// The mails that are stored. A look-up is one by the hash of a name, and touches no text.
 #[derive(Drop)]
 pub(crate) struct Mailbox {
+    /// Those that were killed too, without their texts.
     mails: IndexMap<MailName, Mail>,
+    /// How many have their texts.
+    texts: usize,
 }
 
 impl Model for Mailbox {
     ghost use Rattle.std.specs.Prelude.{List};
     ghost use Rattle.indexmap.specs.IndexMap.{values};
-    ghost use Rattle.node_mail.specs.Mailboxes.{AreNamed};
+    ghost use Rattle.node_mail.specs.Mailboxes.{AreCounted};
     ghost use Rattle.node_mail.specs.Lists.{Mail};
 
     ghost Value = { List Mail };
 
     ghost view = { λ b. values b.mails };
 
-    ghost invariant = { λ b. AreNamed b.mails.entries };
+    ghost invariant = { λ b. AreCounted b.mails.entries b.texts };
 }
 
 impl Mailbox {
@@ -36,6 +39,7 @@ impl Mailbox {
     {
         Mailbox {
             mails: IndexMap::new(alloc),
+            texts: 0,
         }
     }
 
@@ -65,9 +69,17 @@ impl Mailbox {
         })
     }
 
+    /// Whether there is no room for a mail more.
+    pub(crate) fn is_full(&self) -> bool
+        ensures { result ≡ is_full self.now }
+    {
+        self.texts >= MAX_STORED || self.mails.len() >= MAX_EVER_STORED
+    }
+
     /// Stores a mail behind the others.
     pub(crate) fn push(&mut self, mail: Mail) -> Result<(), NoMemory>
-        requires { is_stored self.old mail.origin mail.number ≡ false }
+        requires new { is_stored self.old mail.origin mail.number ≡ false }
+        requires room { is_full self.old ≡ false }
         ensures ok { OnOk result (self.new ≡ self.old ++ mail ∷ []) }
         ensures err { OnErr result (self.new ≡ self.old) }
     {
@@ -75,7 +87,53 @@ impl Mailbox {
             origin: mail.origin,
             number: mail.number,
         };
+        let more = texts_of(&mail);
         self.mails.insert(name, mail)?;
+        self.texts += more;
         Ok(())
     }
+
+    /// Whether the mail of that number from that node is stored and wasn't killed.
+    pub(crate) fn has_text(&self, origin: &Call, number: u64) -> bool
+        ensures { result ≡ is_readable (stored_mail self.now origin.now number) }
+    {
+        let name = MailName {
+            origin: *origin,
+            number,
+        };
+        match self.mails.get(&name) {
+            Some(mail) => !mail.text.is_empty(),
+            None => false,
+        }
+    }
+
+    /// Lets the text of a mail go. False where it isn't stored, or was killed before: then nothing is changed.
+    pub(crate) fn kill(&mut self, origin: &Call, number: u64) -> bool
+        ensures answer { result ≡ is_readable (stored_mail self.old origin.now number) }
+        ensures killed { self.new ≡ killed_in self.old origin.now number }
+        ensures same { result ≡ false → self.new ≡ self.old }
+    {
+        if !self.has_text(origin, number) {
+            return false;
+        }
+        let name = MailName {
+            origin: *origin,
+            number,
+        };
+        match self.mails.get_mut(&name) {
+            Some(mail) => {
+                mail.text.clear();
+                self.texts -= 1;
+                true
+            }
+            None => false,
+        }
+    }
+}
+
+/// One for a mail that has a text.
+fn texts_of(mail: &Mail) -> usize
+    ensures { result ≡ length (with_texts (mail.now ∷ [])) }
+{
+    if mail.text.is_empty() { 0 } else { 1 }
 }

@@ -16,7 +16,7 @@ use std::marker::Model;
 mod again;
 
 /// The mail that a node keeps: what was posted there for users at other nodes, until it is settled, and what is stored
-/// there for its own users.
+/// there for its own users. Of a stored mail that is killed its text goes; it stays in the list, so that it isn't stored again.
 ///
 /// It stands for three lists (`StandsFor`): all mails that were ever posted, those that are queued, and those that are
 /// stored. How to drive it:
@@ -24,7 +24,8 @@ mod again;
 /// - A user's mail comes in by `post`.
 /// - What is queued for a node (`queued`) is written to a circuit with that node as `wire` gives it, as often as need be.
 /// - What comes by a circuit is handed to `hear`, with the node that has written it; `out` is then written back.
-/// - `stored` has the mails for the users of this node; `counts` says how many are queued and stored.
+/// - `stored` has the mails for the users of this node; `counts` says how many are queued and were stored.
+/// - What a user has read and lets go is handed to `kill`.
 #[derive(Drop)]
 pub struct Store {
     alloc: Global,
@@ -42,7 +43,7 @@ impl Model for Store {
 }
 
 impl Store {
-    ghost use Rattle.std.specs.Prelude.{◌≡◌, length, drop, is_some, slice_get, Some, IfOk, OnOk, OnErr};
+    ghost use Rattle.std.specs.Prelude.{◌≡◌, length, drop, is_some, slice_get, Some, false, IfOk, OnOk, OnErr};
     ghost use Rattle.std.specs.Option.{option_map, option_copied};
     ghost use Rattle.node_mail.specs.Heads.{IsSized, wire_of};
     ghost use Rattle.node_mail.specs.Lists as lists;
@@ -87,14 +88,14 @@ impl Store {
         self.queue.name_at(nth)
     }
 
-    /// A stored mail, in the order of storing; `None` past the last.
+    /// A stored mail, in the order of storing, and without text where it was killed; `None` past the last.
     pub fn stored(&self, nth: usize) -> Option<&Mail>
         ensures { (s : Lists) → StandsFor self.now s → option_copied result ≡ slice_get s.stored nth }
     {
         self.mailbox.mail(nth)
     }
 
-    /// How many mails are queued, and how many are stored.
+    /// How many mails are queued, and how many were ever stored.
     pub fn counts(&self) -> (usize, usize)
         ensures { (s : Lists) → StandsFor self.now s → result ≡ (length s.queued, length s.stored) }
     {
@@ -138,6 +139,19 @@ impl Store {
                 Ok(Heard::Bad)
             }
         }
+    }
+
+    /// Lets the text of a stored mail go. That it was stored is kept: it is never stored again, and `stored` and `counts`
+    /// still tell of it. False where none is stored under that number from that node, or it was killed before: then nothing
+    /// is changed.
+    pub fn kill(&mut self, origin: &Call, number: u64) -> bool
+        ensures answer { (s : Lists) → StandsFor self.old s →
+            result ≡ lists.is_readable (lists.stored_mail s.stored origin.now number) }
+        ensures killed { (s : Lists) → StandsFor self.old s →
+            StandsFor self.new (lists.kill_step s origin.now number) }
+        ensures same { result ≡ false → self.new ≡ self.old }
+    {
+        self.mailbox.kill(origin, number)
     }
 
     /// Takes in a message, of which the octets stand in `bytes`.

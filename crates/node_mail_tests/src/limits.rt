@@ -1,7 +1,7 @@
 //! Stores at their limits: 1,000 mails queued, 4,096 stored, each of 1,024 octets. Called by `rt test`.
 use crate::stores::{
-    call, expect_counts, expect_heard, expect_posted, expect_queued, expect_stored, expect_wire,
-    store,
+    call, expect_counts, expect_heard, expect_killed, expect_posted, expect_queued, expect_stored,
+    expect_wire, store,
 };
 use ax_address::Call;
 use node_mail::{Heard, PostRefusal, Store};
@@ -75,4 +75,18 @@ fn four_thousand_and_ninety_six_mails_are_stored(rt: HostRuntime) {
     expect_counts(&rt, &b, (0, 4096));
     expect_stored(&rt, &b, 4095, true);
     expect_stored(&rt, &b, 4096, false);
+    expect_killed(&rt, &mut b, b"N0CCC", 7, false);
+    expect_killed(&rt, &mut b, b"N0AAA", 7, true);
+    expect_killed(&rt, &mut b, b"N0AAA", 7, false);
+    expect_long(&rt, &mut b, 7, Heard::Again { number: 7 });
+    expect_long(&rt, &mut b, 4097, Heard::Stored { number: 4097, to });
+    expect_heard(
+        &rt,
+        &mut b,
+        b"N0AAA",
+        &long_mail(4098),
+        Heard::Full { number: 4098 },
+        b"",
+    );
+    expect_counts(&rt, &b, (0, 4097));
 }

@@ -59,3 +59,8 @@ pub fn expect_counts(rt: &impl Abort, store: &Store, wanted: (usize, usize)) {
 pub fn expect_stored(rt: &impl Abort, store: &Store, nth: usize, wanted: bool) {
     assert!(rt; store.stored(nth).is_some() == wanted, "{nth}");
 }
+
+/// Kills the mail of a number from a node.
+pub fn expect_killed(rt: &impl Abort, store: &mut Store, origin: &[u8], number: u64, wanted: bool) {
+    assert!(rt; store.kill(&call(rt, origin), number) == wanted, "{number}");
+}

@@ -1,5 +1,5 @@
 //! A store is asked what it would do, and does again what was written down of it. Own profile. Called by whoever keeps a log of its mail.
-ghost use Rattle.std.specs.Prelude.{◌≡◌, ◌≤◌, ◌++◌, ◌∷◌, [], length, is_some, not, ◌||◌, nat_le, true, false, IfOk, OnErr};
+ghost use Rattle.std.specs.Prelude.{◌≡◌, ◌≤◌, ◌++◌, ◌∷◌, [], length, is_some, not, ◌||◌, true, false, IfOk, OnErr};
 ghost use Rattle.node_mail.specs.Lists as lists;
 ghost use Rattle.node_mail.specs.Lists.{Lists, StandsFor};
 ghost use Rattle.node_mail.specs.Wires.{IsNumber, IsText};
@@ -7,7 +7,6 @@ ghost use Rattle.node_mail.specs.Wires.{IsNumber, IsText};
 use crate::asking::would_hear;
 use crate::heard::Heard;
 use crate::hearing::mail_of;
-use crate::mail::MAX_STORED;
 use crate::post_refusal::PostRefusal;
 use crate::store::Store;
 use ax_address::Call;
@@ -44,7 +43,7 @@ impl Store {
         self.queue.take_away(number)
     }
 
-    /// Stores a mail. False where it is stored already, or 4,096 are: then nothing is changed.
+    /// Stores a mail. False where it was stored before, or there is no room for it: then nothing is changed.
     pub fn put(
         &mut self,
         origin: &Call,
@@ -54,13 +53,13 @@ impl Store {
     ) -> Result<bool, NoMemory>
         requires { length text.now ≤ 1024 }
         ensures answer { IfOk result (λ is_put. (s : Lists) → StandsFor self.old s →
-            is_put ≡ not (lists.is_stored s.stored origin.now number || nat_le 4096 (length s.stored))) }
+            is_put ≡ not (lists.is_stored s.stored origin.now number || lists.is_full s.stored)) }
         ensures put { IfOk result (λ is_put. is_put ≡ true → (s : Lists) → StandsFor self.old s →
             StandsFor self.new (record s { stored = s.stored ++ lists.mail_of origin.now number to.now text.now ∷ [] })) }
         ensures same { IfOk result (λ is_put. is_put ≡ false → self.new ≡ self.old) }
         ensures err { OnErr result (self.new ≡ self.old) }
     {
-        if self.mailbox.has(origin, number) || self.mailbox.len() >= MAX_STORED {
+        if self.mailbox.has(origin, number) || self.mailbox.is_full() {
             return Ok(false);
         }
         self.mailbox.push(mail_of(origin, number, to, text))?;
