@@ -1,20 +1,21 @@
 -- Records are steps of mail.
-use Rattle.std.proofs.Common.{◌≡◌, ◌==◌, ℕ, List, [], ◌∷◌, ◌++◌, Bool, true, false, cond, drop, take, Option, Some, None, Ok, Err, Result, is_some, refl, sym, ap, subst, ◌∙◌, nat_le, length}
-use Rattle.std.specs.Prelude.{◌&&◌, ◌||◌, not}
+use Rattle.std.proofs.Common.{◌≡◌, ◌==◌, ℕ, List, [], ◌∷◌, ◌++◌, Bool, true, false, cond, drop, take, Option, Some, None, Ok, Err, Result, is_some, inl, inr, refl, sym, ap, subst, ◌∙◌, length}
+use Rattle.std.specs.Prelude.{◌&&◌, ◌||◌, not, remove, slice_get}
 use Rattle.std.specs.Int.{w64, from_be_bytes}
 use Rattle.ax_address.specs.Callsign.{Callsign}
 use Rattle.ax_address.specs.Octets.{net_call_at}
 use Rattle.ax_address.specs.declared.address_refusal.AddressRefusal.{AddressRefusal}
 use Rattle.node_mail.specs.Wires.{Wire, Carries, Receipt, wire_at, mail_at, receipt_at, carried, is_mail_size, is_number, mail_tag, receipt_tag}
-use Rattle.node_mail.specs.Lists.{Lists, post_at, post_step, letter_of, is_stored, is_queued_for, mail_of, heard_by, hear_at, kept_after, text_of}
+use Rattle.node_mail.specs.Lists.{Lists, post_at, post_step, letter_of, is_full, is_stored, is_queued_for, mail_of, heard_by, hear_at, kept_after, text_of}
+use Rattle.node_mail.specs.declared.mail.MailName.{MailName}
 use Rattle.node_mail.specs.declared.heard.Heard.{Heard}
 use Rattle.node_mail.specs.declared.post_refusal.PostRefusal.{PostRefusal}
 use Rattle.node_mail.specs.declared.heard.Heard.TheVariants as heard
 use Rattle.mail_records.specs.declared.record.Record.{Record}
-use Rattle.mail_records.specs.declared.record.Record.TheVariants.{Posted, Settled, Stored}
-use Rattle.mail_box.specs.Boxes.{BoxState, after, gives, has_room, with_lists, with_room}
+use Rattle.mail_records.specs.declared.record.Record.TheVariants.{Posted, Settled, Stored, Killed}
+use Rattle.mail_box.specs.Boxes.{BoxState, after, gives, has_room, killed_at, mail_of_letter, place_of, with_lists, with_room, without_mail}
 use Rattle.mail_box.specs.Inputs.{heard_record, posted_record}
-use Rattle.mail_box.specs.Steps.{HearsAsMail, PostsAsMail}
+use Rattle.mail_box.specs.Steps.{HearsAsMail, IsKilledIn, KillsAsMail, PostsAsMail}
 
 pub of_if : (t : Bool) (y x : BoxState) → cond t (Some y) None ≡ Some x → y ≡ x
 of_if true y x e = cc
@@ -98,7 +99,7 @@ unfolding IsOf
 hears_case b x from octets r (heard.Stored number user) e is goes =
     let text = said_text b.lists from user number octets (wire_at octets) refl e in
     let said : after b (Stored from number user (drop 16 octets)) ≡ Some x = subst (λ k. after b k ≡ Some x) is goes in
-    let same = of_if (has_room b && not (is_stored b.lists.stored from number || nat_le 4096 (length b.lists.stored))) _ x said in
+    let same = of_if (has_room b && not (is_stored b.lists.stored from number || is_full b.lists.stored)) _ x said in
     sym (ap (λ (z : BoxState). z.lists) same) ∙ ap (λ t. record b.lists { stored = b.lists.stored ++ mail_of from number user t ∷ [] }) (sym text)
 hears_case b x from octets r (heard.Settled number) e is goes =
     let said : after b (Settled number) ≡ Some x = subst (λ k. after b k ≡ Some x) is goes in
@@ -111,3 +112,23 @@ hears_case b x from octets r heard.Bad e is goes = absurd is
 pub hears_as_mail : HearsAsMail
 hears_as_mail b x from octets r is goes =
     let h = hear_at b.lists from octets in hears_case b x from octets r h refl (is_of b from (drop 16 octets) h r is) goes
+
+-- a letter that is killed
+module _ (b x : BoxState) where
+  killed_so : (o : Option MailName) → x.lists ≡ without_mail b.lists o → IsKilledIn b.lists x.lists
+  killed_so None e = inl e
+  killed_so (Some mail) e = inr (mail.origin, mail.number, e)
+
+  pub place_so : (o : Option ℕ) → killed_at b o ≡ Some x → IsKilledIn b.lists x.lists
+  place_so None e = absurd cc
+  place_so (Some at) e =
+      let mail = mail_of_letter (slice_get b.letters at) in
+      let same : record b { lists = without_mail b.lists mail; letters = remove b.letters at } ≡ x = cc in
+      killed_so mail (sym (ap (λ (z : BoxState). z.lists) same))
+
+  kills_so : (letter : ℕ) (r : Record) (there : Bool) → cond there (Some (Killed letter)) None ≡ Some r → after b r ≡ Some x → IsKilledIn b.lists x.lists
+  kills_so letter r false is goes = absurd cc
+  kills_so letter r true is goes = place_so (place_of letter b.letters) (subst (λ k. after b k ≡ Some x) (let same : r ≡ Killed letter = cc in same) goes)
+
+pub kills_as_mail : KillsAsMail
+kills_as_mail b x letter r is goes = kills_so b x letter r (is_some (place_of letter b.letters)) is goes

@@ -1,22 +1,25 @@
 -- A run of posts over their logs is a run of `node_mail`, as far as mail goes.
-use Rattle.std.proofs.Common.{◌≡◌, ℕ, List, [], ◌∷◌, ◌++◌, Bool, true, false, not, cond, drop, Option, Some, None, is_some, IsSome, refl, sym, ap, subst, ◌∙◌}
-use Rattle.std.specs.Prelude.{◌&&◌, slice_get, remove}
+use Rattle.std.proofs.Common.{◌≡◌, ℕ, List, [], ◌∷◌, ◌++◌, Bool, true, false, not, cond, drop, Option, Some, None, is_some, IsSome, inl, inr, refl, sym, ap, subst, ◌∙◌}
+use Rattle.std.specs.Prelude.{◌&&◌, slice_get}
 use Rattle.std.specs.List.{AllByRecursion}
 use Rattle.ax_address.specs.Callsign.{Callsign, same_call}
 use Rattle.ax_address.proofs.SameCalls.{same_call-true}
 use Rattle.node_mail.specs.Wires.{Wire, Receipt, wire_at}
-use Rattle.node_mail.specs.Lists.{Letter, Lists, answer_to, hear_at, hear_step, kept_after, letter_of, nothing_kept, post_step, text_of}
-use Rattle.node_mail.specs.Runs.{HoldsMailOnce, MailIsStoredOnce, MailRun, Written, with_store}
+use Rattle.node_mail.specs.Lists.{Letter, Lists, answer_to, hear_at, hear_step, kept_after, kill_step, letter_of, nothing_kept, post_step, text_of}
+use Rattle.node_mail.specs.Kills.{Happens, HoldsMailOnceOrKilled, IsTurn, KilledMailIsStoredOnce, Turn, turn, turns}
+use Rattle.node_mail.specs.Kills as killing
+use Rattle.node_mail.specs.Runs.{MailRun, Written, with_store}
 use Rattle.node_mail.specs.Runs as mail
 use Rattle.node_mail.specs.declared.heard.Heard.{Heard}
 use Rattle.node_mail.specs.declared.heard.Heard.TheVariants as heard
 use Rattle.mail_records.specs.declared.record.Record.{Record}
-use Rattle.mail_records.specs.declared.record.Record.TheVariants.{Settled, Stored, Local, Read, Killed}
-use Rattle.mail_box.specs.Boxes.{BoxState, added, after, after_all, has_number, has_room, killed_at, new_box, place_of, with_room}
+use Rattle.mail_records.specs.declared.record.Record.TheVariants.{Settled, Stored, Local, Read}
+use Rattle.mail_box.specs.Boxes.{BoxState, added, after, after_all, has_number, has_room, new_box, place_of, with_room}
 use Rattle.mail_box.specs.Inputs.{Input, Posts, PostsHere, Reads, Kills, Hears, heard_record, record_of, with_record}
+use Rattle.mail_box.specs.Steps.{IsKilledIn}
 use Rattle.mail_box.specs.Runs.{CutOff, Ending, Refused, Told, found_after, is_told}
 use Rattle.mail_box.specs.Between.{Net, Event, Asks, Offers, Says, Receives, IsEvent, IsUsers, MailIsStoredOnceOverLogs, answers, asks, begin, happens, mail_in, mail_of_posts, offers, offers_letter, opened, receives, receives_by, records_in, run, says, with_found}
-use Rattle.mail_box.proofs.AsMail.{hears_as_mail, of_if, posts_as_mail}
+use Rattle.mail_box.proofs.AsMail.{hears_as_mail, kills_as_mail, of_if, posts_as_mail}
 use Rattle.mail_box.proofs.Following.{true_or_false}
 use Rattle.mail_box.proofs.Keeping.{after_push}
 use Rattle.mail_box.proofs.Recording.{input_follows}
@@ -49,19 +52,20 @@ module _ (w : Net) (post : Callsign) (found : List Record) where
 IsNoMail : Input → Type 0
 IsNoMail (Posts user dest text) = ⊥
 IsNoMail (Hears from octets) = ⊥
+IsNoMail (Kills n) = ⊥
 IsNoMail input = Unit {0}
 
--- the same mail after some events of `node_mail`
+-- the same mail after some turns of `node_mail`
 pub record IsMail (v w : Net) : Type 0 where
-  pub events : List mail.Event
-  pub are : AllByRecursion mail.IsEvent events
-  pub same : mail_of_posts w ≡ mail.run events (mail_of_posts v)
+  pub events : List Turn
+  pub are : AllByRecursion IsTurn events
+  pub same : mail_of_posts w ≡ turns events (mail_of_posts v)
 
 nothing_new : (v w : Net) → mail_of_posts w ≡ mail_of_posts v → IsMail v w
 nothing_new v w same = record { events = []; are = tt; same = same }
 
 one_event : (v w : Net) (e : mail.Event) → mail.IsEvent e → mail_of_posts w ≡ mail.happens (mail_of_posts v) e → IsMail v w
-one_event v w e is same = record { events = e ∷ []; are = (is, tt); same = same }
+one_event v w e is same = record { events = Happens e ∷ []; are = (is, tt); same = same }
 
 goes_to : (o : Option BoxState) → IsSome o → (x : BoxState) × (o ≡ Some x)
 goes_to None is = true_or_false (sym is)
@@ -78,7 +82,7 @@ letters_keep b x (PostsHere user text) r other is goes = local (has_room b) refl
     local false e is = absurd cc
     local true e is =
         let said : after b (Local user text) ≡ Some x = subst (λ k. after b k ≡ Some x) (let same : r ≡ Local user text = cc in same) goes in
-        sym (ap (λ (z : BoxState). z.lists) (of_if (has_room b) (added user text b) x said))
+        sym (ap (λ (z : BoxState). z.lists) (of_if (has_room b) (added None user text b) x said))
 letters_keep b x (Reads n) r other is goes = read (is_some (place_of n b.letters) && not (has_number n b.read)) is
   where
     read : (test : Bool) → cond test (Some (Read n)) None ≡ Some r → x.lists ≡ b.lists
@@ -86,15 +90,7 @@ letters_keep b x (Reads n) r other is goes = read (is_some (place_of n b.letters
     read true is =
         let said : after b (Read n) ≡ Some x = subst (λ k. after b k ≡ Some x) (let same : r ≡ Read n = cc in same) goes in
         sym (ap (λ (z : BoxState). z.lists) (of_if (is_some (place_of n b.letters) && not (has_number n b.read)) _ x said))
-letters_keep b x (Kills n) r other is goes = kill (is_some (place_of n b.letters)) is
-  where
-    killed : (o : Option ℕ) → killed_at b o ≡ Some x → x.lists ≡ b.lists
-    killed None e = absurd cc
-    killed (Some at) e = (let same : record b { letters = remove b.letters at } ≡ x = cc in sym (ap (λ (z : BoxState). z.lists) same))
-
-    kill : (test : Bool) → cond test (Some (Killed n)) None ≡ Some r → x.lists ≡ b.lists
-    kill false is = absurd cc
-    kill true is = killed (place_of n b.letters) (subst (λ k. after b k ≡ Some x) (let same : r ≡ Killed n = cc in same) goes)
+letters_keep b x (Kills n) r other is goes = absurd other
 
 -- the post is opened, and has this
 module _ (w : Net) (post : Callsign) (b : BoxState) (is : opened post (w.found_at post) ≡ Some b) where
@@ -128,6 +124,16 @@ module _ (w : Net) (post : Callsign) (b : BoxState) (is : opened post (w.found_a
       nothing_new w (with_found w post (found ++ r ∷ []))
       (stays w post (found ++ r ∷ []) (Some b.lists) (more_records r goes.0 goes.1 ∙ ap Some (letters_keep b goes.0 input r other e goes.1)) mail_is)
 
+  killed : (n : ℕ) (r : Record) (x : BoxState) → after b r ≡ Some x → IsKilledIn b.lists x.lists → IsMail w (with_found w post (found ++ r ∷ []))
+  killed n r x goes (inl same) =
+      nothing_new w (with_found w post (found ++ r ∷ [])) (stays w post (found ++ r ∷ []) (Some b.lists) (more_records r x goes ∙ ap Some same) mail_is)
+  killed n r x goes (inr is) = record {
+    events = killing.Kills post is.0 is.1 ∷ [];
+    are = (tt, tt);
+    same = changes w post (found ++ r ∷ []) (kill_step b.lists is.0 is.1) (more_records r x goes ∙ ap Some is.2)
+        ∙ sym (ap (killing.kills (mail_of_posts w) post is.0 is.1) mail_is);
+  }
+
   writes_down : (input : Input) (r : Record) → IsUsers input → record_of b input ≡ Some r → IsMail w (with_found w post (found ++ r ∷ []))
   unfolding IsNoMail
   writes_down (Posts user dest text) r is_call e =
@@ -139,7 +145,9 @@ module _ (w : Net) (post : Callsign) (b : BoxState) (is : opened post (w.found_a
   writes_down (Hears from octets) r never e = absurd never
   writes_down (PostsHere user text) r users e = letter (PostsHere user text) r tt e
   writes_down (Reads n) r users e = letter (Reads n) r tt e
-  writes_down (Kills n) r users e = letter (Kills n) r tt e
+  writes_down (Kills n) r users e =
+      let goes = goes_to (after b r) (input_follows b (Kills n) r e) in
+      killed n r goes.0 goes.1 (kills_as_mail b goes.0 n r e goes.1)
 
   asked : (input : Input) → IsUsers input → (r : Option Record) → record_of b input ≡ r → (ending : Ending) → IsMail w (with_found w post (found_after found r ending))
   asked input users None e Told = unchanged
@@ -279,11 +287,11 @@ happens_so w (Offers post number) is = offers_so w post number (opened post (w.f
 happens_so w (Says node to octets) is = says_so w node to octets (w.found_at node) refl
 happens_so w (Receives which ending answered) is = receives_so w which ending answered (slice_get w.written which) refl
 
-run_on : (first bs : List mail.Event) (w : MailRun) → mail.run (first ++ bs) w ≡ mail.run bs (mail.run first w)
+run_on : (first bs : List Turn) (w : MailRun) → turns (first ++ bs) w ≡ turns bs (turns first w)
 run_on [] bs w = refl
-run_on (a ∷ first) bs w = run_on first bs (mail.happens w a)
+run_on (a ∷ first) bs w = run_on first bs (turn w a)
 
-all_on : (first bs : List mail.Event) → AllByRecursion mail.IsEvent first → AllByRecursion mail.IsEvent bs → AllByRecursion mail.IsEvent (first ++ bs)
+all_on : (first bs : List Turn) → AllByRecursion IsTurn first → AllByRecursion IsTurn bs → AllByRecursion IsTurn (first ++ bs)
 all_on [] bs are others = others
 all_on (a ∷ first) bs are others = (are.0, all_on first bs are.1 others)
 
@@ -295,7 +303,7 @@ runs_so (e ∷ es) w are =
     record {
       events = first.events ++ rest.events;
       are = all_on first.events rest.events first.are rest.are;
-      same = rest.same ∙ ap (mail.run rest.events) first.same ∙ sym (run_on first.events rest.events (mail_of_posts w));
+      same = rest.same ∙ ap (turns rest.events) first.same ∙ sym (run_on first.events rest.events (mail_of_posts w));
     }
 
 begins : (has_post : Callsign → Bool) → mail_of_posts (begin has_post) ≡ mail.begin has_post
@@ -305,7 +313,7 @@ begins has_post = λ i. record { store_of = λ c. begun c (has_post c) i; writte
     begun c true = refl
     begun c false = refl
 
-pub stored_once_over_logs : MailIsStoredOnce → MailIsStoredOnceOverLogs
+pub stored_once_over_logs : KilledMailIsStoredOnce → MailIsStoredOnceOverLogs
 stored_once_over_logs law has_post es are =
     let it = runs_so es (begin has_post) are in
-    subst HoldsMailOnce (sym (it.same ∙ ap (mail.run it.events) (begins has_post))) (law has_post it.events it.are)
+    subst HoldsMailOnceOrKilled (sym (it.same ∙ ap (turns it.events) (begins has_post))) (law has_post it.events it.are)

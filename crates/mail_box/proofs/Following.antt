@@ -1,10 +1,10 @@
 -- Records that can follow.
-use Rattle.std.proofs.Common.{◌≡◌, ◌==◌, ℕ, List, [], ◌∷◌, Bool, true, false, not, cond, Option, Some, None, Ok, is_some, IsSome, refl, sym, ap, ◌∙◌, nat_le, length, T}
+use Rattle.std.proofs.Common.{◌≡◌, ◌==◌, ℕ, List, [], ◌∷◌, Bool, true, false, not, cond, Option, Some, None, Ok, is_some, IsSome, refl, sym, ap, ◌∙◌, T}
 use Rattle.std.specs.Prelude.{◌&&◌, ◌||◌}
 use Rattle.std.proofs.Math.Dec.{eqb_refl}
 use Rattle.ax_address.specs.Callsign.{Callsign, same_call}
 use Rattle.node_mail.specs.Wires.{Wire, Carries, Receipt, wire_at}
-use Rattle.node_mail.specs.Lists.{Letter, letter_of, is_queued_for, is_stored, heard_by, hear_at, post_at}
+use Rattle.node_mail.specs.Lists.{Letter, letter_of, is_full, is_queued_for, is_stored, heard_by, hear_at, post_at}
 use Rattle.node_mail.specs.declared.heard.Heard.TheVariants as heard
 use Rattle.mail_records.specs.declared.record.Record.TheVariants.{Posted, Settled, Stored, Local, Read, Killed}
 use Rattle.mail_box.specs.Boxes.{BoxState, after, gives, has_room, has_number, killed_at, place_of}
@@ -66,9 +66,9 @@ stored_case : (b : BoxState) (from user : Callsign) (number : ℕ) (text : List 
 stored_case b from user number text None room e = absurd cc
 stored_case b from user number text (Some (Receipt n)) room e = absurd (receipt_never_stores (is_queued_for b.lists.queued from n) n number user e)
 stored_case b from user number text (Some (Carries n to said)) room e =
-    let is = mail_case (is_stored b.lists.stored from n) (nat_le 4096 (length b.lists.stored)) n number to user e in
+    let is = mail_case (is_stored b.lists.stored from n) (is_full b.lists.stored) n number to user e in
     let known : is_stored b.lists.stored from number ≡ false = ap (is_stored b.lists.stored from) (sym is.2) ∙ is.0 in
-    if_some (has_room b && not (is_stored b.lists.stored from number || nat_le 4096 (length b.lists.stored))) _ (both _ _ room (neither _ _ known is.1))
+    if_some (has_room b && not (is_stored b.lists.stored from number || is_full b.lists.stored)) _ (both _ _ room (neither _ _ known is.1))
 
 pub stored_follows : (b : BoxState) (from user : Callsign) (number : ℕ) (text octets : List ℕ) → has_room b ≡ true → hear_at b.lists from octets ≡ heard.Stored number user → IsSome (after b (Stored from number user text))
 stored_follows b from user number text octets room e = stored_case b from user number text (wire_at octets) room e
@@ -94,7 +94,7 @@ never_settles false false n number to e = cc
 
 settled_by : (b : BoxState) (from : Callsign) (number : ℕ) (w : Option Wire) → heard_by b.lists.queued b.lists.stored from w ≡ heard.Settled number → IsSome (after b (Settled number))
 settled_by b from number None e = absurd cc
-settled_by b from number (Some (Carries n to text)) e = absurd (never_settles (is_stored b.lists.stored from n) (nat_le 4096 (length b.lists.stored)) n number to e)
+settled_by b from number (Some (Carries n to text)) e = absurd (never_settles (is_stored b.lists.stored from n) (is_full b.lists.stored) n number to e)
 settled_by b from number (Some (Receipt n)) e =
     let is = settled_case (is_queued_for b.lists.queued from n) n number e in
     if_some (is_some (letter_of number b.lists.queued)) _ (queued_is b.lists.queued from number (ap (is_queued_for b.lists.queued from) (sym is.1) ∙ is.0))

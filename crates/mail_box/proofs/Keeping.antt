@@ -1,12 +1,13 @@
 -- A record that was written down and applied is kept.
 use Rattle.std.proofs.Common.{◌≡◌, ◌⊎◌, ℕ, List, [], ◌∷◌, ◌++◌, Bool, true, false, cond, Option, Some, None, Ok, Err, Result, refl, sym, ap, subst, ◌∙◌}
-use Rattle.std.specs.Prelude.{is_some, option_and_then, ◌&&◌, ◌||◌, not, nat_le, length}
+use Rattle.std.specs.Prelude.{is_some, option_and_then, ◌&&◌, ◌||◌, not, slice_get}
 use Rattle.ax_address.specs.Callsign.{Callsign}
-use Rattle.node_mail.specs.Lists.{Lists, is_stored, mail_of, post_at, posted_by}
+use Rattle.node_mail.specs.Lists.{Lists, is_full, is_stored, mail_of, post_at, posted_by}
+use Rattle.node_mail.specs.declared.mail.MailName.{MailName}
 use Rattle.node_mail.specs.declared.post_refusal.PostRefusal.{PostRefusal}
 use Rattle.mail_records.specs.declared.record.Record.{Record}
 use Rattle.mail_records.specs.declared.record.Record.TheVariants.{Posted, Settled, Stored, Local, Read, Killed}
-use Rattle.mail_box.specs.Boxes.{BoxState, MailsView, MailsStand, Goes, added, after, after_all, has_room, killed_at, new_box, place_of, with_lists}
+use Rattle.mail_box.specs.Boxes.{BoxState, MailsView, MailsStand, Goes, added, after, after_all, has_room, killed_at, mail_of_letter, name, new_box, place_of, with_lists, without_mail}
 use Rattle.mail_box.specs.declared.post_mail.MailBox.{MailBox}
 use Rattle.mail_box.specs.Inputs.{Input, record_of, with_record}
 use Rattle.mail_box.specs.Kept.{AfterAll, FindsAtMost, IsFoundToo, IsKept, IsRecordOf, Keeps}
@@ -35,9 +36,13 @@ unfolding HasOwn
 own_if own true x e = e
 own_if own false x e = tt
 
+own_without : (s : Lists) (o : Option MailName) → (without_mail s o).own ≡ s.own
+own_without s None = refl
+own_without s (Some mail) = refl
+
 own_killed : (b : BoxState) (o : Option ℕ) → HasOwn b.lists.own (killed_at b o)
 unfolding HasOwn
-own_killed b (Some at) = refl
+own_killed b (Some at) = own_without b.lists (mail_of_letter (slice_get b.letters at))
 own_killed b None = tt
 
 own_posted : (s : Lists) (user dest : Callsign) (text : List ℕ) (r : Result ℕ PostRefusal) → (posted_by s user dest text r).own ≡ s.own
@@ -91,11 +96,11 @@ all_some mails (Some b) stands = refl
 
 -- a mail that is stored, with a letter for its user
 pub stored_goes : (b : BoxState) (origin user : Callsign) (number : ℕ) (text : List ℕ) (old new : MailsView) → has_room b ≡ true
-    → not (is_stored b.lists.stored origin number || nat_le 4096 (length b.lists.stored)) ≡ true
-    → MailsStand new (added user text (with_lists (record b.lists { stored = b.lists.stored ++ mail_of origin number user text ∷ [] }) b))
+    → not (is_stored b.lists.stored origin number || is_full b.lists.stored) ≡ true
+    → MailsStand new (added (Some (name origin number)) user text (with_lists (record b.lists { stored = b.lists.stored ++ mail_of origin number user text ∷ [] }) b))
     → Goes true old new (after b (Stored origin number user text))
 stored_goes b origin user number text old new room put stands =
-    subst (λ t. Goes true old new (cond t (Some (added user text (with_lists (record b.lists { stored = b.lists.stored ++ mail_of origin number user text ∷ [] }) b))) None))
+    subst (λ t. Goes true old new (cond t (Some (added (Some (name origin number)) user text (with_lists (record b.lists { stored = b.lists.stored ++ mail_of origin number user text ∷ [] }) b))) None))
     (sym (both_true (has_room b) _ room put)) stands
   where
     both_true : (x y : Bool) → x ≡ true → y ≡ true → (x && y) ≡ true

@@ -2,8 +2,11 @@ pub mod Again
 pub mod AsMail
 pub mod Between
 pub mod Following
+pub mod ItsMails
 pub mod Keeping
+pub mod Killing
 pub mod Ledgers
+pub mod Named
 pub mod Numbers
 pub mod Recording
 pub mod Telling

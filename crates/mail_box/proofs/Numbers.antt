@@ -3,11 +3,12 @@ use Rattle.std.proofs.Common.{◌≡◌, ◌≤◌, ◌<◌, ◌+◌, ℕ, List,
 use Rattle.std.specs.Prelude.{All, option_and_then}
 use Rattle.std.proofs.lemmas.List.Elements.{All-append, All-drop, All-nil, All-push, All-take, All-weaker}
 use Rattle.ax_address.specs.Callsign.{Callsign}
+use Rattle.node_mail.specs.declared.mail.MailName.{MailName}
 use Rattle.mail_records.specs.declared.record.Record.{Record}
 use Rattle.mail_records.specs.declared.record.Record.TheVariants.{Posted, Settled, Stored, Local, Read, Killed}
 use Rattle.mail_box.specs.declared.letter.Letter.{Letter}
 use Rattle.mail_box.specs.declared.post_mail.MailBox.{MailBox}
-use Rattle.mail_box.specs.Boxes.{BoxState, MailsView, MailsStand, Goes, added, after, after_all, has_room, killed_at, new_box, place_of}
+use Rattle.mail_box.specs.Boxes.{BoxState, MailsView, MailsStand, Goes, added, after, after_all, as_letter, has_room, killed_at, name, new_box, place_of}
 use Rattle.mail_box.specs.Kept.{IsKept, IsNewLetter}
 
 UpTo : ℕ → List Letter → Type 0
@@ -23,10 +24,10 @@ unfolding AllUpTo
 if_up true b up = up
 if_up false b up = tt
 
-added_up : (user : Callsign) (text : List ℕ) (given : ℕ) (letters : List Letter) → UpTo given letters → UpTo (given + 1) (letters ++ record { number = given + 1; user = user; text = text } ∷ [])
+added_up : (mail : Option MailName) (user : Callsign) (text : List ℕ) (given : ℕ) (letters : List Letter) → UpTo given letters → UpTo (given + 1) (letters ++ as_letter (given + 1) mail user text ∷ [])
 unfolding UpTo
-added_up user text given letters up =
-    All-push (λ (l : Letter). l.number ≤ given + 1) letters (record { number = given + 1; user = user; text = text })
+added_up mail user text given letters up =
+    All-push (λ (l : Letter). l.number ≤ given + 1) letters (as_letter (given + 1) mail user text)
     (All-weaker (λ (l : Letter). l.number ≤ given) (λ (l : Letter). l.number ≤ given + 1) (λ l le. omega arith) letters up) (omega arith)
 
 killed_up : (b : BoxState) (o : Option ℕ) → UpTo b.given b.letters → AllUpTo (killed_at b o)
@@ -39,8 +40,8 @@ killed_up b (Some at) up =
 after_up : (b : BoxState) (r : Record) → UpTo b.given b.letters → AllUpTo (after b r)
 after_up b (Posted number user dest text) up = if_up _ _ up
 after_up b (Settled number) up = if_up _ _ up
-after_up b (Stored origin number user text) up = if_up _ _ (added_up user text b.given b.letters up)
-after_up b (Local user text) up = if_up _ _ (added_up user text b.given b.letters up)
+after_up b (Stored origin number user text) up = if_up _ _ (added_up (Some (name origin number)) user text b.given b.letters up)
+after_up b (Local user text) up = if_up _ _ (added_up None user text b.given b.letters up)
 after_up b (Read letter) up = if_up _ _ up
 after_up b (Killed letter) up = killed_up b (place_of letter b.letters) up
 
@@ -63,15 +64,15 @@ unfolding UpTo
 none_yet own = All-nil (λ (l : Letter). l.number ≤ 0)
 
 module _ (old new : MailsView) (user : Callsign) (text copy : List ℕ) (number : ℕ) (b : BoxState) (stood : MailsStand old b) (up : UpTo b.given b.letters) (same : copy ≡ text) where
-  stands_new : number ≡ b.given + 1 → MailsStand new (added user copy b) → IsNewLetter old new number user text
+  stands_new : number ≡ b.given + 1 → MailsStand new (added None user copy b) → IsNewLetter old new number user text
   unfolding UpTo
   stands_new said stands = record {
     next = said ∙ ap (λ n. n + 1) (sym stood.given);
     above = subst (All (λ (l : Letter). l.number < number)) (sym stood.letters)
         (All-weaker (λ (l : Letter). l.number ≤ b.given) (λ (l : Letter). l.number < number) (λ l le. omega (arith, said)) b.letters up);
-    last = stands.letters ∙ ap (λ ls. ls ++ record { number = b.given + 1; user = user; text = copy } ∷ []) (sym stood.letters)
-        ∙ ap (λ n. old.letters ++ record { number = n; user = user; text = copy } ∷ []) (sym said)
-        ∙ ap (λ t. old.letters ++ record { number = number; user = user; text = t } ∷ []) same;
+    last = stands.letters ∙ ap (λ ls. ls ++ as_letter (b.given + 1) None user copy ∷ []) (sym stood.letters)
+        ∙ ap (λ n. old.letters ++ as_letter n None user copy ∷ []) (sym said)
+        ∙ ap (λ t. old.letters ++ as_letter number None user t ∷ []) same;
   }
 
 -- a letter that was posted here stands behind the others
@@ -81,5 +82,5 @@ pub new_letter : {L : Type 0} (holds : L → List Record → Type 0) (old : Mail
 new_letter holds old new kept user text copy number k same room goes said =
     let b = k.state in
     let up = kept_up b (after_all (new_box old.mails.store.own) kept) k.after (all_up kept (new_box old.mails.store.own) (none_yet old.mails.store.own)) in
-    let stands : MailsStand new (added user copy b) = subst (λ t. Goes true old.mails new (cond t (Some (added user copy b)) None)) (room b k.stands) (goes b k.stands) in
-    stands_new old.mails new user text copy number b k.stands up same (said (added user copy b) stands) stands
+    let stands : MailsStand new (added None user copy b) = subst (λ t. Goes true old.mails new (cond t (Some (added None user copy b)) None)) (room b k.stands) (goes b k.stands) in
+    stands_new old.mails new user text copy number b k.stands up same (said (added None user copy b) stands) stands

@@ -5,7 +5,8 @@ use Rattle.std.specs.List.{AllByRecursion}
 use Rattle.ax_address.specs.Callsign.{Callsign, IsCallsign, same_call}
 use Rattle.node_mail.specs.Wires.{Wire, wire_octets}
 use Rattle.node_mail.specs.Lists.{Letter, Lists, answer_to, hear_at, letter_of, offer}
-use Rattle.node_mail.specs.Runs.{HoldsMailOnce, MailRun, Written}
+use Rattle.node_mail.specs.Kills.{HoldsMailOnceOrKilled}
+use Rattle.node_mail.specs.Runs.{MailRun, Written}
 use Rattle.mail_records.specs.declared.record.Record.{Record}
 use Rattle.mail_box.specs.Boxes.{BoxState, after_all, new_box, with_room}
 use Rattle.mail_box.specs.Inputs.{Input, Posts, Hears, record_of}
@@ -111,8 +112,8 @@ mail_in (Some b) = Some b.lists
 abbrev pub mail_of_posts : Net → MailRun
 mail_of_posts w = record { store_of = λ c. mail_in (opened c (w.found_at c)); written = w.written }
 
--- Between all posts each mail that was posted is queued or stored, with its user and its text, and stored once.
+-- Between all posts each mail that was posted is queued, or stored once, with its user and its text, or was stored and killed.
 abbrev pub MailIsStoredOnceOverLogs : Type 0
 MailIsStoredOnceOverLogs =
     (has_post : Callsign → Bool) (events : List Event) →
-    AllByRecursion IsEvent events → HoldsMailOnce (mail_of_posts (run events (begin has_post)))
+    AllByRecursion IsEvent events → HoldsMailOnceOrKilled (mail_of_posts (run events (begin has_post)))

@@ -6,7 +6,7 @@ use Rattle.mail_records.specs.declared.log_failed.LogFailed.{LogFailed}
 use Rattle.mail_records.specs.declared.log_failed.LogFailed.TheVariants.{Memory, Disk, Full, Spoilt}
 use Rattle.mail_box.specs.declared.post_mail.MailBox.{MailBox}
 use Rattle.mail_box.specs.declared.letter.Letter.{Letter}
-use Rattle.mail_box.specs.Boxes.{BoxState, MailsView, MailsStand, new_box, after, after_all}
+use Rattle.mail_box.specs.Boxes.{BoxState, MailsView, MailsStand, new_box, as_letter, after, after_all}
 use Rattle.mail_box.specs.Inputs.{Input, record_of, with_record}
 
 -- the log has these records, and what the post has is what they say
@@ -56,7 +56,7 @@ AfterAll mails None = ⊥
 pub record IsNewLetter (old new : MailsView) (number : ℕ) (user : Callsign) (text : List ℕ) : Type 0 where
   pub next : number ≡ old.given + 1
   pub above : All (λ (l : Letter). l.number < number) old.letters
-  pub last : new.letters ≡ old.letters ++ record { number = number; user = user; text = text } ∷ []
+  pub last : new.letters ≡ old.letters ++ as_letter number None user text ∷ []
 
 -- the record behind the first n ones is the first that can't follow
 pub record StopsBehind (b : BoxState) (records : List Record) (n : ℕ) : Type 0 where

@@ -2,6 +2,8 @@ pub mod Between
 pub mod Boxes
 pub mod Inputs
 pub mod Kept
+pub mod Letters
 pub mod Refused
 pub mod Runs
 pub mod Steps
+pub mod Users

@@ -3,8 +3,9 @@ ghost use Rattle.std.specs.Prelude.{◌≡◌, List};
 ghost use Rattle.mail_records.specs.declared.record.Record.{Record as Written};
 ghost use Rattle.mail_box.specs.Between.{MailIsStoredOnceOverLogs};
 ghost use Rattle.mail_box.specs.Kept.{IsKept};
+ghost use Rattle.mail_box.specs.Letters.{LettersAreItsMails};
 ghost use Rattle.mail_box.specs.Runs.{TellsOnlyWhatIsKept};
-ghost use Rattle.mail_box.specs.Steps.{HasItsMails, HearsAsMail, PostsAsMail};
+ghost use Rattle.mail_box.specs.Steps.{HasItsMails, HearsAsMail, KillsAsMail, PostsAsMail};
 
 use crate::post_mail::MailBox;
 use mail_records::Log;
@@ -34,24 +35,31 @@ pub fn kept()
 {}
 
 /// What a post writes down of a mail, and does then, are the steps of `node_mail`: so what holds of its runs holds of
-/// posts, that mail is stored once among it (`node_mail::laws::mail_once`).
+/// posts, that mail is stored once among it (`node_mail::laws::mail_once_or_killed`).
 pub fn steps_as_mail()
     ensures heard { HearsAsMail }
     ensures posted { PostsAsMail }
+    ensures killed { KillsAsMail }
 {}
 
-/// The mails of a post are those of which its records say that they were posted, and that they were stored: so a mail that
-/// a user was told is posted is one of them.
+/// The mails of a post are those of which its records say that they were posted, and that they were stored, each with its
+/// text, or killed: so a mail that a user was told is posted is one of them.
 pub fn mails_of_records()
     ensures { HasItsMails }
 {}
 
+/// The letters that are kept and came from other posts are the mails that are stored and weren't killed, with their users
+/// and texts, in the same order.
+pub fn letters_are_its_mails()
+    ensures { LettersAreItsMails }
+{}
+
 /// Between any posts that keep their logs, whatever is asked of them, whatever nodes without a post write, and wherever
 /// their programs end: of any two posts, what one has stored from the other has different numbers, and each has the user
-/// and the text of the mail that was posted there under that number for it; and each mail that was posted there for it is
-/// queued there or stored here.
+/// of the mail that was posted there under that number for it, and its text, or none where its letter was killed; and each
+/// mail that was posted there for it is queued there, or stored here with its text, or was stored here and killed.
 pub fn mail_once_over_logs()
     ensures { MailIsStoredOnceOverLogs }
 {
-    node_mail::laws::mail_once();
+    node_mail::laws::mail_once_or_killed();
 }

@@ -1,6 +1,7 @@
 //! What a post has of letters and mails, and how each record changes it. Called by `post_mail` and `changing`.
 ghost use Rattle.std.specs.Prelude.{◌≡◌, true, ◌==◌, ◌<◌, ◌≤◌, ◌^◌, ℕ, List, length, position, is_some, IfOk, IfSome};
 ghost use Rattle.std.specs.List.{list_any};
+ghost use Rattle.std.specs.Option.{option_copied};
 ghost use Rattle.node_mail.specs.Lists as node_mail_lists;
 ghost use Rattle.mail_box.specs.Boxes as boxes;
 ghost use Rattle.mail_box.specs.Boxes.{BoxState, MailsStand, Goes};
@@ -64,6 +65,17 @@ impl Mails {
         ensures { (b : BoxState) → MailsStand self.now b → result.now ≡ b.letters }
     {
         &self.letters
+    }
+
+    /// The letter of this number, where it is kept.
+    pub fn letter(&self, number: u64) -> Option<&Letter>
+        ensures { (b : BoxState) → MailsStand self.now b →
+            option_copied result ≡ boxes.letter_at (boxes.place_of number b.letters) b.letters }
+    {
+        match place_of(&self.letters, number) {
+            Some(at) => self.letters.as_slice().get(at),
+            None => None,
+        }
     }
 
     /// Whether a letter of this number is kept.

@@ -60,6 +60,14 @@ fn offer(rt: &impl Abort, post: &mut MailBox<MemoryLog>, dest: &Call) -> Message
     out
 }
 
+/// How long the text is of the first mail that was stored.
+fn text_left(post: &MailBox<MemoryLog>) -> Option<usize> {
+    match post.mails().store().stored(0) {
+        Some(mail) => Some(mail.text.len()),
+        None => None,
+    }
+}
+
 #[test]
 fn a_mail_is_stored_once_over_restarts_and_a_kill(rt: HostRuntime) {
     let alloc = rt.alloc();
@@ -82,7 +90,9 @@ fn a_mail_is_stored_once_over_restarts_and_a_kill(rt: HostRuntime) {
         true,
     );
     assert!(&rt; second.mails().letters().len() == 1);
+    assert!(&rt; text_left(&second) == Some(5));
     assert!(&rt; second.kill(1) == Ok(()));
+    assert!(&rt; text_left(&second) == Some(0));
     let mut second = restarted(&rt, alloc, &there, second);
     expect_heard(
         &rt,
@@ -93,6 +103,7 @@ fn a_mail_is_stored_once_over_restarts_and_a_kill(rt: HostRuntime) {
         true,
     );
     assert!(&rt; second.mails().letters().is_empty());
+    assert!(&rt; text_left(&second) == Some(0));
 }
 
 #[test]

@@ -1,7 +1,16 @@
 //! Letters between users of one post.
 use crate::handing_over::{call, restarted};
+use ax_address::Call;
 use mail_box::{BoxRefusal, MailBox};
 use mail_records::MemoryLog;
+
+/// Whether the letter of a number is for a user, where it is kept.
+fn is_for(post: &MailBox<MemoryLog>, number: u64, user: &Call) -> Option<bool> {
+    match post.mails().letter(number) {
+        Some(letter) => Some(letter.is_for(user)),
+        None => None,
+    }
+}
 
 #[test]
 fn letters_keep_their_numbers_and_marks(rt: HostRuntime) {
@@ -13,6 +22,10 @@ fn letters_keep_their_numbers_and_marks(rt: HostRuntime) {
         .expect(&rt, "a post");
     assert!(&rt; post.post_here(&call(&rt, b"K1ABC"), b"one") == Ok(1));
     assert!(&rt; post.post_here(&call(&rt, b"ALL"), b"two") == Ok(2));
+    assert!(&rt; is_for(&post, 1, &call(&rt, b"K1ABC-5")) == Some(true));
+    assert!(&rt; is_for(&post, 1, &call(&rt, b"K1ABD")) == Some(false));
+    assert!(&rt; is_for(&post, 2, &call(&rt, b"K1ABD")) == Some(true));
+    assert!(&rt; is_for(&post, 3, &call(&rt, b"K1ABD")).is_none());
     assert!(&rt; post.read(2) == Ok(()));
     assert!(&rt; post.kill(1) == Ok(()));
     assert!(&rt; post.kill(1) == Err(BoxRefusal::NoLetter));

@@ -8,6 +8,7 @@ use crate::letter::Letter;
 use crate::mails::{Mails, has_number, place_of};
 use ax_address::Call;
 use mail_records::{LetterText, Record};
+use node_mail::MailName;
 use radio_base::NoMemory;
 
 impl Mails {
@@ -84,7 +85,11 @@ impl Mails {
         if !self.store.put(origin, number, user, text.as_slice())? {
             return Ok(false);
         }
-        self.add_letter(user, text)?;
+        let name = MailName {
+            origin: *origin,
+            number,
+        };
+        self.add_letter(Some(name), user, text)?;
         Ok(true)
     }
 
@@ -95,20 +100,26 @@ impl Mails {
         if !self.has_room() {
             return Ok(false);
         }
-        self.add_letter(user, text)?;
+        self.add_letter(None, user, text)?;
         Ok(true)
     }
 
     /// Puts a letter behind the others.
-    fn add_letter(&mut self, user: &Call, text: &LetterText) -> Result<(), NoMemory>
+    fn add_letter(
+        &mut self,
+        mail: Option<MailName>,
+        user: &Call,
+        text: &LetterText,
+    ) -> Result<(), NoMemory>
         requires { self.old.given < 2 ^ 62 }
         ensures { OnOk result ((b : BoxState) → MailsStand self.old b →
-            MailsStand self.new (boxes.added user.now text.now b)) }
+            MailsStand self.new (boxes.added mail user.now text.now b)) }
     {
         let text = text.copy(self.alloc)?;
         let number = self.given + 1;
         self.letters.push(Letter {
             number,
+            mail,
             user: *user,
             text,
         })?;
@@ -133,10 +144,21 @@ impl Mails {
     {
         match place_of(&self.letters, letter) {
             Some(at) => {
-                self.letters.remove(at);
+                let letter = self.letters.remove(at);
+                self.kill_mail(letter.mail);
                 true
             }
             None => false,
+        }
+    }
+
+    /// Kills the mail as which a letter came.
+    fn kill_mail(&mut self, mail: Option<MailName>)
+        ensures { (b : BoxState) → MailsStand self.old b →
+            MailsStand self.new (boxes.with_lists (boxes.without_mail b.lists mail) b) }
+    {
+        if let Some(name) = mail {
+            self.store.kill(&name.origin, name.number);
         }
     }
 }
