@@ -1,4 +1,5 @@
 pub mod Places
 pub mod Slices
 pub mod Lent
+pub mod Lines
 pub mod Bests

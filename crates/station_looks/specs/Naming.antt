@@ -1,5 +1,5 @@
 -- Which node a word names, whose route to it is best, and how a node is shown. Own profile.
-use Rattle.std.specs.Prelude.{ℕ, List, [], ◌∷◌, ◌++◌, flat_map, slice_get, Option, Some, None, Result, Ok, Err, Bool, true, false, ◌||◌, nat_eq, nat_lt, codes, if◌then◌else◌}
+use Rattle.std.specs.Prelude.{ℕ, List, [], ◌∷◌, flat_map, slice_get, Option, Some, None, Result, Ok, Err, Bool, false, ◌||◌, nat_eq, nat_lt, codes, if◌then◌else◌}
 use Rattle.std.specs.List.{find}
 use Rattle.std.specs.Option.{option_map}
 use Rattle.std.specs.Cmp.Lexicographic.{pointwise}

@@ -1,5 +1,5 @@
 -- Which member stands on a port. Own profile.
-use Rattle.std.specs.Prelude.{ℕ, Option, Some, None, Bool, true, false, ◌==◌, if◌then◌else◌}
+use Rattle.std.specs.Prelude.{ℕ, Option, Some, None, Bool, false, ◌==◌, if◌then◌else◌}
 use Rattle.std.specs.List.{find, list_any}
 use Rattle.station_members.specs.Looks.{rules_at}
 use Rattle.station_members.specs.States.{State}

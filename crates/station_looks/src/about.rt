@@ -1,4 +1,4 @@
-//! What the operator says of a station to its users. Called by the crates that serve users.
+//! What the operator says of a station to its users. Used by most files here, and by the crates that serve users.
 ghost use Rattle.std.specs.Prelude.{◌≡◌, ◌≤◌, ◌<◌, length, position, IfSome};
 ghost use Rattle.station_looks.specs.Abouts as abouts;
 

@@ -1,4 +1,4 @@
-//! Which node a word names. Called by the crates that serve users.
+//! Which node a word names. Called by `routes`, and by the crates that serve users.
 ghost use Rattle.std.specs.Prelude.{◌≡◌, flat_map, IfOk};
 ghost use Rattle.std.specs.Option.{option_to_list};
 ghost use Rattle.ax_address.specs.Callsign.{call_at};

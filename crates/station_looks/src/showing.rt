@@ -1,4 +1,4 @@
-//! How a node is shown. Called by the crates that serve users.
+//! How a node is shown. Called by `routes`, and by the crates that serve users.
 ghost use Rattle.std.specs.Prelude.{◌≡◌};
 ghost use Rattle.station_members.specs.Standing.{MembersStand};
 ghost use Rattle.station_members.specs.States.{State};

@@ -1,4 +1,4 @@
-use Rattle.std.proofs.Common.{◌≡◌, ◌<◌, ◌∙◌, arith, ap, length, sym}
+use Rattle.std.proofs.Common.{◌∙◌, ap, sym}
 use Rattle.station_looks.specs.Naming.{best_of, ways_named_to}
 use Rattle.station_looks.proofs.Bests.{best_next, best_one}
 use Rattle.station_looks.proofs.naming.best_named.Goals as goal

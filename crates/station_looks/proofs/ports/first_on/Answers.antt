@@ -1,4 +1,4 @@
-use Rattle.std.proofs.Common.{◌≡◌, ◌<◌, ◌≤◌, ◌-◌, ◌∙◌, ℕ, List, arith, ap, length, sym, true, false}
+use Rattle.std.proofs.Common.{◌<◌, ◌≤◌, ◌∙◌, ℕ, List, arith, ap, length, sym}
 use Rattle.std.specs.List.{find}
 use Rattle.station_looks.specs.Ports.{is_on}
 use Rattle.station_looks.proofs.Places.{found, not_found, not_here, rest_all}

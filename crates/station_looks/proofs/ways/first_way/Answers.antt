@@ -1,4 +1,4 @@
-use Rattle.std.proofs.Common.{◌≡◌, ◌<◌, ◌≤◌, ◌-◌, ◌∙◌, ℕ, List, arith, ap, flat_map, length, sym}
+use Rattle.std.proofs.Common.{◌<◌, ◌≤◌, ◌∙◌, ℕ, List, arith, ap, flat_map, length, sym}
 use Rattle.std.specs.Prelude.{None, slice_get}
 use Rattle.station_looks.specs.Naming.{ways_at}
 use Rattle.station_looks.proofs.Places.{first_here, first_later, first_none, rest_all}
