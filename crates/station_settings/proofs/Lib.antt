@@ -1,0 +1,2 @@
+mod OneBeacon
+mod Started
