@@ -10,12 +10,12 @@ use Rattle.cmd_streams.specs.Reading.{ReadsFile}
 use Rattle.network_file.specs.Networks.{Bad, network_of, word_for}
 use Rattle.network_file.specs.Plan.{Plan}
 use Rattle.net_verdict.specs.declared.causes.LateCause.{LateCause}
-use Rattle.net_world.specs.declared.trace.Trace.{Trace}
+use Rattle.net_model.specs.declared.trace.Trace.{Trace}
 use Rattle.net_verdict.specs.Causes.{IsCauseOf}
 use Rattle.net_model.specs.Circuits.{IsVerdictOn, allowance_of, AirsFew, AirsTooMany, IsInTime, IsLate, IsNetwork}
 use Rattle.net_model.specs.Lines.{world}
 use Rattle.net_model.specs.Standing.{IsTraceOf}
-use Rattle.net_world.specs.Traces.{allowance_in, left_of}
+use Rattle.net_model.specs.Traces.{allowance_in, left_of}
 use Rattle.look_cmd.specs.declared.traces.TraceRefusal.{TraceRefusal}
 use Rattle.look_cmd.specs.declared.traces.TraceRefusal.TheVariants.{BadLine, TooManyFrames, NoMemory}
 use Rattle.trace_lines.specs.Texts.{trace_text}

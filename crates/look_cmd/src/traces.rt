@@ -9,15 +9,15 @@ ghost use Rattle.net_model.specs.World.{most_frames};
 ghost use Rattle.net_verdict.specs.Causes.{IsCauseOf};
 ghost use Rattle.net_model.specs.Circuits.{IsVerdictOn, IsNetwork};
 ghost use Rattle.net_model.specs.Lines.{world};
-ghost use Rattle.net_world.specs.Traces.{left_of};
+ghost use Rattle.net_model.specs.Traces.{left_of};
 ghost use Rattle.look_cmd.specs.Look.{TraceEnds};
 ghost use Rattle.look_cmd.specs.Traced.{IfTraceOf, IsTraced, NotTraced, TracedEnds};
 
 use circuit_verdict::Late;
 use cmd_streams::{Status, TOO_LONG, read_file, refuse_input, refuse_line, say, write_all};
-use net_model::ReplayRefusal;
+use net_model::{ReplayRefusal, Trace};
 use net_verdict::{LateCause, late_cause, too_late};
-use net_world::{Trace, replay};
+use net_world::replay;
 use network_file::{Network, NetworkRefusal, What, read_network};
 use radio_base::{NoMemory, Sink, Source, TextOut};
 use std::alloc::Global;

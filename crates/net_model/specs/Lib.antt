@@ -8,6 +8,7 @@ pub mod Mailing
 pub mod Lines
 pub mod Circuits
 pub mod Standing
+pub mod Traces
 pub mod Answers
 pub mod Stores
 pub mod SoundPlans

@@ -20,6 +20,7 @@ mod refusals;
 mod refused;
 mod stations;
 mod table;
+mod trace;
 
 pub use air::{Air, Aired, place_of_frame};
 pub use allowance::allowance_of;
@@ -38,3 +39,4 @@ pub use refusals::{LineRefusal, ReplayRefusal};
 pub use refused::of_post;
 pub use stations::{declared_by_number, is_callsign, members_of, shown, started};
 pub use table::Table;
+pub use trace::Trace;

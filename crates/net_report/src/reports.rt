@@ -14,7 +14,7 @@ ghost use Rattle.net_report.specs.Reports as texts;
 ghost use Rattle.net_model.specs.Starting.{Placed};
 ghost use Rattle.net_report.specs.ToldLines as entries;
 ghost use Rattle.net_model.specs.Standing.{IsTraceOf, MailStands, MembersStand};
-ghost use Rattle.net_world.specs.Traces.{left_of};
+ghost use Rattle.net_model.specs.Traces.{left_of};
 
 use crate::entries::{write_entry, write_last};
 use crate::told::events::write_event_line;
@@ -24,8 +24,7 @@ use crate::told::tables::write_table;
 use arrayvec::ArrayString;
 use ax_frame::{read_frame, show_frame};
 use circuit_verdict::{Late, LateWhy};
-use net_model::{Aired, EndRecord, Event, LineRefusal, Member, NumberedEvent, shown};
-use net_world::Trace;
+use net_model::{Aired, EndRecord, Event, LineRefusal, Member, NumberedEvent, Trace, shown};
 use node_core::{Node, NodeEntry};
 use node_mail::Store;
 use radio_base::{LinkModulus, M8, M128, Modulus, NoMemory, TextOut, push_decimal};

@@ -8,15 +8,14 @@ ghost use Rattle.net_report.specs.Reporting.{ends_left};
 ghost use Rattle.net_report.specs.Reports as texts;
 ghost use Rattle.net_model.specs.Starting.{Placed};
 ghost use Rattle.net_model.specs.Standing.{IsTraceOf, MembersStand};
-ghost use Rattle.net_world.specs.Traces.{left_of};
+ghost use Rattle.net_model.specs.Traces.{left_of};
 ghost use Rattle.net_model.specs.World.{World};
 
 use crate::reports::write_verdict;
 use circuit_l4::{EndFacts, EndNotice};
 use circuit_table::SetEvent;
 use circuit_verdict::Late;
-use net_model::{EndRecord, Event, Member, NumberedEvent, Outcome};
-use net_world::Trace;
+use net_model::{EndRecord, Event, Member, NumberedEvent, Outcome, Trace};
 use node_core::{Node, NodeEntry};
 use radio_base::{NoMemory, TextOut};
 use std::alloc::{AllocError, Global};

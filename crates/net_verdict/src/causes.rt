@@ -9,14 +9,13 @@ ghost use Rattle.net_model.specs.Events.{event_of, numbered_of};
 ghost use Rattle.net_model.specs.Standing.{AreDeclared};
 ghost use Rattle.net_model.specs.Starting.{Placed};
 ghost use Rattle.net_model.specs.Standing.{IsTraceOf};
-ghost use Rattle.net_world.specs.Traces.{allowance_in, left_of};
+ghost use Rattle.net_model.specs.Traces.{allowance_in, left_of};
 ghost use Rattle.net_model.specs.World.{World};
 
 use crate::late::circuit_event;
 use crate::sign::Sign;
 use circuit_verdict::{Cause, Event as CircuitEvent, Verdict};
-use net_model::{Member, NumberedEvent};
-use net_world::Trace;
+use net_model::{Member, NumberedEvent, Trace};
 use radio_base::NoMemory;
 use std::alloc::Global;
 

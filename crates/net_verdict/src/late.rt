@@ -13,15 +13,14 @@ ghost use Rattle.net_verdict.specs.Judging.{Heeds, circuit_told, entry_told, set
 ghost use Rattle.net_model.specs.Standing.{AreDeclared};
 ghost use Rattle.net_model.specs.Starting.{Placed};
 ghost use Rattle.net_model.specs.Standing.{IsTraceOf};
-ghost use Rattle.net_world.specs.Traces.{allowance_in, left_of};
+ghost use Rattle.net_model.specs.Traces.{allowance_in, left_of};
 ghost use Rattle.net_model.specs.World.{World};
 
 use ax_address::Call;
 use circuit_table::SetEvent;
 use circuit_verdict::{CircuitTold, Event as CircuitEvent, Late, Verdict};
 use l3_datagram::Datagram;
-use net_model::{Event, LostEnd, Member, NumberedEvent, place_of};
-use net_world::Trace;
+use net_model::{Event, LostEnd, Member, NumberedEvent, Trace, place_of};
 use node_core::NodeEntry;
 use radio_base::NoMemory;
 use std::alloc::Global;

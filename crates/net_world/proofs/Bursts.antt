@@ -10,7 +10,7 @@ use Rattle.net_model.specs.declared.refusals.ReplayRefusal.{ReplayRefusal}
 use Rattle.net_model.specs.Events.{Refused, Wrote}
 use Rattle.net_model.specs.Lines.{all_wrote, burst_from, refusal_events}
 use Rattle.net_model.specs.Answers.{IsRefusedFor}
-use Rattle.net_world.specs.Traces.{IsRefusal}
+use Rattle.net_model.specs.Traces.{IsRefusal}
 use Rattle.net_model.specs.World.{Act, World, answer, put, reach, tell}
 use Rattle.net_world.proofs.Growing.{burst_grows}
 use Rattle.net_model.proofs.Looks.{burst_by}

@@ -8,7 +8,7 @@ use Rattle.net_model.specs.declared.refusals.ReplayRefusal.{ReplayRefusal}
 use Rattle.net_world.specs.Agents.{Offers, offer_from}
 use Rattle.net_model.specs.Mailing.{mail_in, numbers_for, offer, queued_of}
 use Rattle.net_world.specs.Running.{Course, Stands, Stops}
-use Rattle.net_world.specs.Traces.{IsRefusal}
+use Rattle.net_model.specs.Traces.{IsRefusal}
 use Rattle.net_model.specs.World.{World}
 
 pub numbers_none : (dest : Callsign) (last : ℕ) (ls : List Letter) (nth : ℕ) → None ≡ option_map number_and_dest (slice_get ls nth)

@@ -8,7 +8,7 @@ use Rattle.net_model.specs.declared.refusals.ReplayRefusal.TheVariants as refusa
 use Rattle.net_model.specs.World.{settled_at, World}
 use Rattle.net_model.specs.Lines.{settle}
 use Rattle.net_world.specs.Running.{Course, GoesOn, Runs, Stands, Stops}
-use Rattle.net_world.specs.Traces.{IsRefusal}
+use Rattle.net_model.specs.Traces.{IsRefusal}
 
 pub refused_still : (e : ReplayRefusal) (n m : ℕ) → n ≤ m → IsRefusal e n → IsRefusal e m
 refused_still refusals.FramesFull n m more h = omega arith

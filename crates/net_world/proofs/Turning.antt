@@ -31,7 +31,7 @@ use Rattle.net_model.specs.Mailing.{Agent, agent_turn, ends_here, heard_by, hear
 use Rattle.net_model.specs.Refused.{of_post, refusal_events}
 use Rattle.net_world.specs.Running.{Course, GoesOn, Runs, Stands, Stops}
 use Rattle.net_model.specs.Answers.{message_in}
-use Rattle.net_world.specs.Traces.{IsRefusal}
+use Rattle.net_model.specs.Traces.{IsRefusal}
 use Rattle.net_model.specs.Standing.{MembersStand}
 use Rattle.net_model.specs.Starting.{Placed}
 use Rattle.net_model.specs.declared.members.Member.{Member}

@@ -8,7 +8,7 @@ use Rattle.net_model.specs.declared.refusals.ReplayRefusal.{ReplayRefusal}
 use Rattle.net_model.specs.Events.{event_of}
 use Rattle.net_model.specs.Mailing.{Agent, mail_at, numbers_for, offer, queued_of}
 use Rattle.net_world.specs.Running.{Course, GoesOn, Stands}
-use Rattle.net_world.specs.Traces.{IsRefusal}
+use Rattle.net_model.specs.Traces.{IsRefusal}
 use Rattle.net_model.specs.World.{World}
 
 -- ---- a turn, with what the line is to answer

@@ -1,3 +1,2 @@
-pub mod Traces
 pub mod Running
 pub mod Agents

@@ -15,7 +15,7 @@ use Rattle.net_model.specs.declared.refusals.ReplayRefusal.{ReplayRefusal}
 use Rattle.net_model.specs.Events.{Event, Entry}
 use Rattle.net_model.specs.Lines.{loss_of, losses_of}
 use Rattle.net_model.specs.Starting.{Placed}
-use Rattle.net_world.specs.Traces.{IsRefusal}
+use Rattle.net_model.specs.Traces.{IsRefusal}
 use Rattle.net_model.specs.Standing.{IsTraceOf, Left}
 use Rattle.net_model.specs.World.{World, air_events, aired_as, at_node, puts, tell, tells_entries, with_state}
 

@@ -12,8 +12,6 @@ mod mailing;
 mod moves;
 mod replaying;
 mod restarting;
-mod trace;
 mod world;
 
 pub use replaying::replay;
-pub use trace::Trace;

@@ -4,12 +4,11 @@ ghost use Rattle.net_model.specs.World.{most_frames};
 ghost use Rattle.net_model.specs.SoundPlans.{IsSound};
 ghost use Rattle.net_model.specs.Circuits.{allowance_of};
 ghost use Rattle.net_model.specs.Lines as lines;
-ghost use Rattle.net_world.specs.Traces.{IsRefusal, allowance_in, left_of};
+ghost use Rattle.net_model.specs.Traces.{IsRefusal, allowance_in, left_of};
 ghost use Rattle.net_model.specs.Standing.{IsTraceOf};
 
-use crate::trace::Trace;
 use crate::world::start;
-use net_model::ReplayRefusal;
+use net_model::{ReplayRefusal, Trace};
 use network_file::Network;
 use std::alloc::Global;
 
@@ -25,5 +24,5 @@ pub fn replay(alloc: Global, network: &Network) -> Result<Trace, ReplayRefusal>
 {
     let mut world = start(alloc, network)?;
     world.do_all(network, network.instructions())?;
-    Ok(Trace::new(world))
+    Ok(world.left())
 }

@@ -6,7 +6,9 @@ ghost use Rattle.net_world.specs.Running.{Stands, course};
 ghost use Rattle.net_model.specs.World as worlds;
 
 use circuit_verdict::Allowance;
-use net_model::{Air, Ends, Member, NumberedEvent, allowance_of, declared_by_number, members_of};
+use net_model::{
+    Air, Ends, Member, NumberedEvent, Trace, allowance_of, declared_by_number, members_of,
+};
 use network_file::{Channel, Network};
 use radio_base::{Moment, NoMemory};
 use std::alloc::Global;
@@ -42,4 +44,19 @@ pub(crate) fn start(alloc: Global, network: &Network) -> Result<World<'_>, NoMem
         ends: Ends::new(alloc)?,
         events: Vec::new(alloc),
     })
+}
+
+impl World<'_> {
+    ghost use Rattle.std.specs.Prelude.{◌≡◌, ◌≤◌, length};
+    ghost use Rattle.net_model.specs.Traces.{left_of};
+    ghost use Rattle.net_model.specs.World.{most_frames};
+    ghost use Rattle.net_world.specs.Running.{course};
+
+    /// What it leaves.
+    pub(crate) fn left(self) -> Trace
+        ensures left { left_of result ≡ (course self.entry).left }
+        ensures few { length self.entry.air ≤ most_frames }
+    {
+        Trace::of(self.members, self.air, self.ends, self.events, self.allowance)
+    }
 }

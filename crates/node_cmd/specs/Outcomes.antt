@@ -5,14 +5,14 @@ use Rattle.radio_base.specs.Causes.{Rose}
 use Rattle.circuit_verdict.specs.declared.late.Late.{Late}
 use Rattle.network_file.specs.Networks.{Bad, network_of, word_for}
 use Rattle.network_file.specs.Plan.{Plan}
-use Rattle.net_world.specs.declared.trace.Trace.{Trace}
+use Rattle.net_model.specs.declared.trace.Trace.{Trace}
 use Rattle.net_model.specs.World.{most_frames, World}
 use Rattle.net_model.specs.Circuits.{IsVerdictOn, allowance_of, AirsFew, AirsTooMany, IsInTime, IsLate, IsNetwork}
 use Rattle.net_model.specs.Lines.{world}
 use Rattle.net_laws.specs.Promises.{MailOnceThroughout, RetriesAreTold, SafeThroughout}
 use Rattle.net_report.specs.Reports.{report_text, soak_text}
 use Rattle.net_model.specs.Standing.{IsTraceOf}
-use Rattle.net_world.specs.Traces.{allowance_in, left_of}
+use Rattle.net_model.specs.Traces.{allowance_in, left_of}
 use Rattle.cmd_streams.specs.Told.{Comes, WritesWell, IsBadFile, IsNoted, StreamsTold, AppendsFront}
 use Rattle.cmd_streams.specs.declared.status.Status.{Status}
 use Rattle.cmd_streams.specs.declared.status.Status.TheVariants as statuses

@@ -5,7 +5,7 @@ ghost use Rattle.network_file.specs.Plan.{Plan};
 ghost use Rattle.net_model.specs.SoundPlans.{IsSound};
 ghost use Rattle.net_laws.specs.Promises.{MailOnceThroughout, RetriesAreTold, SafeThroughout};
 ghost use Rattle.net_model.specs.Standing.{IsTraceOf};
-ghost use Rattle.net_world.specs.Traces.{left_of};
+ghost use Rattle.net_model.specs.Traces.{left_of};
 ghost use Rattle.net_model.specs.World.{World};
 ghost use Rattle.node_cmd.specs.Outcomes.{IfReplayed, IsOutcome, NetworkEnds, NotReported, text_of};
 ghost use Rattle.cmd_streams.specs.Reading.{max_file};

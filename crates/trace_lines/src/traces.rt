@@ -1,7 +1,7 @@
 //! The text of the trace of a network. Called by `look_cmd`.
 ghost use Rattle.std.specs.Prelude.{◌≡◌, ◌++◌, OnOk, OnErr, IfOk};
 ghost use Rattle.net_model.specs.Standing.{IsTraceOf};
-ghost use Rattle.net_world.specs.Traces.{left_of};
+ghost use Rattle.net_model.specs.Traces.{left_of};
 ghost use Rattle.net_model.specs.World.{World};
 ghost use Rattle.trace_lines.specs.Texts as texts;
 
@@ -13,7 +13,7 @@ use crate::lines::Lines;
 use crate::marks::repeat_marks;
 use circuit_verdict::Late;
 use net_verdict::LateCause;
-use net_world::Trace;
+use net_model::Trace;
 use network_file::Network;
 use radio_base::{NoMemory, TextOut};
 use std::alloc::Global;

@@ -1,6 +1,6 @@
 use Rattle.net_report.specs.Reporting.{ends_left}
 use Rattle.net_report.specs.Reports.{kept_text}
-use Rattle.net_world.specs.Traces.{left_of}
+use Rattle.net_model.specs.Traces.{left_of}
 use Rattle.net_report.proofs.Texts.{kept_joined}
 use Rattle.net_report.proofs.reports.+write_nodes.Goals as goal
 

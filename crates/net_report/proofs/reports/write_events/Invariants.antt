@@ -1,7 +1,7 @@
 use Rattle.std.proofs.Common.{◌≡◌, ◌++◌, drop}
 use Rattle.std.specs.Prelude.{flat_map}
 use Rattle.net_report.specs.Reporting.{text_left}
-use Rattle.net_world.specs.Traces.{left_of}
+use Rattle.net_model.specs.Traces.{left_of}
 use Rattle.net_report.proofs.reports.write_events.Given as goal
 
 abbrev pub invariant-loop-numbered : goal.invariant-loop-numbered

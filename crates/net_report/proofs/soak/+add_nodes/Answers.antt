@@ -1,6 +1,6 @@
 use Rattle.net_report.specs.Reporting.{ends_left}
 use Rattle.net_report.specs.Reports.{facts_of}
-use Rattle.net_world.specs.Traces.{left_of}
+use Rattle.net_model.specs.Traces.{left_of}
 use Rattle.net_report.proofs.Texts.{nodes_joined}
 use Rattle.net_report.proofs.soak.+add_nodes.Goals as goal
 

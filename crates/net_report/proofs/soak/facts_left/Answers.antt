@@ -1,7 +1,7 @@
 use Rattle.std.proofs.Common.{List, sym, subst}
 use Rattle.net_model.specs.declared.members.Member.{Member}
 use Rattle.net_model.specs.Standing.{MembersStand}
-use Rattle.net_world.specs.Traces.{left_of}
+use Rattle.net_model.specs.Traces.{left_of}
 use Rattle.net_report.proofs.Soaking.{facts_joined}
 use Rattle.net_report.proofs.soak.facts_left.Goals as goal
 

@@ -1,5 +1,5 @@
 use Rattle.std.proofs.Common.{◌∙◌, ◌++◌, ap}
-use Rattle.net_world.specs.Traces.{left_of}
+use Rattle.net_model.specs.Traces.{left_of}
 use Rattle.net_report.proofs.Soaking.{line_joined}
 use Rattle.net_report.proofs.soak.text_of.Goals as goal
 

@@ -10,7 +10,7 @@ use Rattle.net_verdict.proofs.LateLines.{cause_is, empty_in_time, no_cause}
 use Rattle.net_verdict.proofs.causes.late_cause.Goals as goal
 use Rattle.net_model.specs.declared.members.Member.{Member}
 use Rattle.net_model.proofs.Stores.{all_declared}
-use Rattle.net_world.specs.Traces.{left_of}
+use Rattle.net_model.specs.Traces.{left_of}
 
 pub returns-in-Some : goal.returns-in-Some
 returns-in-Some c = λ plan w late allowed trace verdict.

@@ -1,5 +1,5 @@
 use Rattle.std.proofs.Common.{◌∙◌}
-use Rattle.net_world.specs.Traces.{left_of}
+use Rattle.net_model.specs.Traces.{left_of}
 use Rattle.net_verdict.proofs.Judged.{judges_all}
 use Rattle.net_verdict.proofs.late.too_late.Goals as goal
 

@@ -12,7 +12,7 @@ returns-clause-ok c =
     let plan = c.args.network.now in
     let all = rw c.instructions.ensures at c.in_ok-do_all.ensures.runs in
     let there = all (start plan) c.in_ok-world.ensures.stands in
-    subst (λ (l : Left). IsTraceOf l (world plan)) (sym c.new.ensures.left) there.trace
+    subst (λ (l : Left). IsTraceOf l (world plan)) (sym c.left.ensures.left) there.trace
 
 pub returns-clause-allowance : goal.returns-clause-allowance
 unfolding world
@@ -20,7 +20,7 @@ returns-clause-allowance c =
     let plan = c.args.network.now in
     let all = rw c.instructions.ensures at c.in_ok-do_all.ensures.runs in
     let there = all (start plan) c.in_ok-world.ensures.stands in
-    ap (λ (l : Left). l.allowance) c.new.ensures.left ∙ (there.trace.allowance ∙ allowance_stays plan (rw c.instructions.ensures at c.in_ok-do_all.ensures.sound))
+    ap (λ (l : Left). l.allowance) c.left.ensures.left ∙ (there.trace.allowance ∙ allowance_stays plan (rw c.instructions.ensures at c.in_ok-do_all.ensures.sound))
 
 pub returns-in_err-do_all-clause-err : goal.returns-in_err-do_all-clause-err
 unfolding world

@@ -1,6 +1,6 @@
 use Rattle.net_report.specs.Reporting.{ends_left}
 use Rattle.trace_lines.specs.Left.{kept_trace}
-use Rattle.net_world.specs.Traces.{left_of}
+use Rattle.net_model.specs.Traces.{left_of}
 use Rattle.net_report.proofs.Texts.{kept_joined}
 use Rattle.trace_lines.proofs.left.+write_nodes.Goals as goal
 

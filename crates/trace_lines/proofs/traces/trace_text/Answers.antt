@@ -3,7 +3,7 @@ use Rattle.network_file.specs.declared.plan.instructions.NumberedInstruction.{Nu
 use Rattle.net_model.specs.Events.{numbered_of}
 use Rattle.net_model.specs.declared.members.Member.{Member}
 use Rattle.net_model.specs.Standing.{MembersStand}
-use Rattle.net_world.specs.Traces.{left_of}
+use Rattle.net_model.specs.Traces.{left_of}
 use Rattle.trace_lines.specs.Events.{events_from, repeats}
 use Rattle.trace_lines.specs.Marks.{mark_at}
 use Rattle.trace_lines.proofs.Joining.{trace_joined}

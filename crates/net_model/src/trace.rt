@@ -1,8 +1,10 @@
-//! What a replay leaves. `replaying` makes it, and the crates of reports, verdicts and traces read it.
+//! What a replay leaves. net_world makes it, and the crates of reports, verdicts and traces read it.
 
-use crate::world::World;
+use crate::air::{Air, Aired};
+use crate::ends::{EndRecord, Ends};
+use crate::events::NumberedEvent;
+use crate::members::Member;
 use circuit_verdict::Allowance;
-use net_model::{Air, Aired, EndRecord, Ends, Member, NumberedEvent};
 
 /// What is left of a replay: the nodes by number, the frames in the air, the ends that each node ever made, and the events in
 /// their order.
@@ -19,19 +21,25 @@ impl Trace {
     ghost use Rattle.std.specs.Prelude.{◌≡◌, ◌≤◌, length};
     ghost use Rattle.net_model.specs.World.{most_frames};
     ghost use Rattle.net_model.specs.Ends.{ends_at};
-    ghost use Rattle.net_world.specs.Running.{course};
-    ghost use Rattle.net_world.specs.Traces.{allowance_in, left_of};
+    ghost use Rattle.net_model.specs.Traces.{allowance_in, left_of, left_with};
 
-    pub(crate) fn new(world: World<'_>) -> Trace
-        ensures left { left_of result ≡ (course world.entry).left }
-        ensures few { length world.entry.air ≤ most_frames }
+    /// What these leave.
+    pub fn of(
+        members: Vec<Member>,
+        air: Air,
+        ends: Ends,
+        events: Vec<NumberedEvent>,
+        allowance: Allowance,
+    ) -> Trace
+        ensures left { left_of result ≡ left_with members.items air ends events.items allowance }
+        ensures few { length air ≤ most_frames }
     {
         Trace {
-            members: world.members,
-            air: world.air,
-            ends: world.ends,
-            events: world.events,
-            allowance: world.allowance,
+            members,
+            air,
+            ends,
+            events,
+            allowance,
         }
     }
 
