@@ -1,4 +1,4 @@
-//! What follows for a post whose log is opened again.
+//! What follows for a post whose log is opened again. No code calls these: they are for who reads what a post promises.
 ghost use Rattle.std.specs.Prelude.{◌≡◌, List};
 ghost use Rattle.mail_records.specs.declared.record.Record.{Record as Written};
 ghost use Rattle.mail_box.specs.Between.{MailIsStoredOnceOverLogs};

@@ -15,10 +15,10 @@ pub fn wire_spelling()
     ax_address::laws::net_call_spelling();
 }
 
-/// In each run in which nothing is killed, whatever is heard, in whatever order and how often, and whatever nodes without a store write: of any
-/// two nodes with a store, what one has stored from the other has different numbers, and each has the user and the text
-/// of the mail that was posted there under that number for it; and each mail that was posted there for it is queued
-/// there or stored here. That mail arrives isn't promised.
+/// In each run in which nothing is killed, whatever is heard, in whatever order and how often, and whatever nodes without a
+/// store write: of any two nodes with a store, what one has stored from the other has different numbers, and each has the
+/// user and the text of the mail that was posted there under that number for it; and each mail that was posted there for it
+/// is queued there or stored here. That mail arrives isn't promised.
 pub fn mail_once()
     ensures { MailIsStoredOnce }
 {

@@ -1,4 +1,4 @@
-//! From one run to the next.
+//! From one run to the next. No code calls these: they are for who reads what a log promises.
 ghost use Rattle.std.specs.Prelude.{◌≡◌, None, List};
 ghost use Rattle.mail_records.specs.declared.record.Record.{Record as Kept};
 ghost use Rattle.sqlite.specs.Recovery.{Image};

@@ -1,4 +1,4 @@
-//! All at which users of a station are.
+//! All at which users of a station are. Asked by the users of a station, for the side of each of them.
 ghost use Rattle.std.specs.Prelude.{◌≡◌, ◌↔◌, IsErr, IsErrOf, IsTrue, OnOk};
 ghost use Rattle.node_core.specs.Acts.{act_of};
 ghost use Rattle.node_core.specs.Standing.{IsAnswer};
