@@ -57,6 +57,12 @@ impl World<'_> {
         ensures left { left_of result ≡ (course self.entry).left }
         ensures few { length self.entry.air ≤ most_frames }
     {
-        Trace::of(self.members, self.air, self.ends, self.events, self.allowance)
+        Trace::of(
+            self.members,
+            self.air,
+            self.ends,
+            self.events,
+            self.allowance,
+        )
     }
 }
