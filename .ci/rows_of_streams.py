@@ -8,6 +8,7 @@ from rows_of_text import Draw
 
 TO_NODE = call("N0AAA", 0xE0) + call("N0BBB", 0x61)
 OF_NODE = call("N0BBB", 0xE0) + call("N0AAA", 0x61)
+RESPONSE = call("N0BBB", 0x60) + call("N0AAA", 0xE1)
 
 
 def datagram(origin, dest, transport):
@@ -203,13 +204,41 @@ def acknowledgements():
     yield stream("acknowledgements", "links=0", came, map(of_node, [*sent, *pieces[2:]]))
 
 
+QUIET = ["prompt=0", "interval=0", *(f"{key}=86400000" for key in ("t1", "t3", "timeout", "busy", "inactive"))]
+
+
+class Survived(Row):
+    """A message on a circuit over a link, of which only a beginning comes, or one octet is 00 or FF. Whatever becomes of it, the node has
+    answered what came before, and answers a TEST behind it."""
+
+    def __init__(self):
+        super().__init__("cut short or broken", ["node", "call=N0AAA", "alias=ANODE", *QUIET])
+        whole = TO_NODE + b"\x22" + datagram("N0BBB", "N0AAA", b"\x01\x01\0\0\x05hi")
+        self.others = [whole[:count] for count in range(len(whole))]
+        self.others += [whole[:at] + octet + whole[at + 1:] for at in range(len(whole)) for octet in (b"\x00", b"\xFF")]
+        asked, self.answered = kiss(TO_NODE + b"\xF3?"), kiss(RESPONSE + b"\xF3?")
+        came = [*broadcasts([]), TO_NODE + b"\x3F", TO_NODE + b"\x00" + datagram("N0BBB", "N0AAA", request())]
+        accept, got = (datagram("N0AAA", "N0BBB", bytes(octets)) for octets in ([7, 9, 1, 1, 2, 4], [7, 9, 0, 1, 6]))
+        self.front, self.behind = b"".join(map(kiss, came)), asked
+        self.sent = kiss(RESPONSE + b"\x73") + kiss(RESPONSE + b"\x21") + kiss(OF_NODE + b"\x20" + accept)
+        self.input = self.front + kiss(whole) + asked
+        self.output = self.sent + kiss(RESPONSE + b"\x41") + kiss(OF_NODE + b"\x42" + got) + self.answered
+
+    def fault(self, program):
+        for other in self.others:
+            came = self.front + kiss(other) + self.behind
+            sent = subprocess.run([*program, *self.words], input=came, capture_output=True).stdout
+            if not (sent.startswith(self.sent) and sent[len(self.sent):].endswith(self.answered)):
+                return f"for {other.hex(' ')} it sends {sent}"
+        return super().fault(program)
+
+
 class Hostile(Row):
     """20,000 KISS items: frames of any kind, most of them almost right, and mere noise. What is sent doesn't depend on how
     the bytes are cut."""
 
     def __init__(self):
-        times = [f"{key}=86400000" for key in ("t1", "t3", "timeout", "busy", "inactive")]
-        super().__init__("hostile", ["node", "call=N0AAA", "alias=ANODE", "prompt=0", "interval=0", *times])
+        super().__init__("hostile", ["node", "call=N0AAA", "alias=ANODE", *QUIET])
         draw = Draw(3)
         self.stream = b"".join(item(draw) for _ in range(20000))
 
@@ -285,5 +314,5 @@ def item(draw):
 def made():
     """All rows of this file."""
     every = (a_65th_request, a_65th_link, aliases, at_the_prompt, a_long_list, lines_in_segments, no_circuits, longest_messages, a_busy_end,
-             acknowledgements, lambda: [Hostile()])
+             acknowledgements, lambda: [Survived(), Hostile()])
     return (row for rows in every for row in rows())

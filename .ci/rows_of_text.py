@@ -1,7 +1,7 @@
 """Rows for `replay` and `life` that are too long to be written: they are made of numbers that follow from what they are about."""
 import subprocess
 
-from rows import Row
+from rows import USAGE, Row
 
 UP = """< setup b
 > air b N0BBB>N0AAA cmd SABM pf=1
@@ -312,6 +312,21 @@ def lost_repeated_late():
     yield Lossy()
 
 
+def vias():
+    """A node reaches at most 16 others over repeaters, by a file and by words."""
+    peers = [f"N0B{chr(65 + n)}" for n in range(17)]
+    for count, status, output, notes in (16, 0, b"table 1 N0AAA A\nverdict done\n", b""), (17, 3, b"", b"line 18: value\n"):
+        row = Row(f"{count} via lines", ["replay"])
+        for line in "node 1 N0AAA A", *(f"via 1 {peer} N0RRR N0RRR" for peer in peers[:count]):
+            row.add("<", line)
+        row.status, row.output, row.notes = status, output, notes
+        yield row
+    for count, status, notes in (16, 0, b""), (17, 2, USAGE):
+        row = Row(f"{count} via words", ["node", "call=N0AAA", "alias=A", *(f"via={peer},N0RRR,N0RRR" for peer in peers[:count])])
+        row.status, row.notes = status, notes
+        yield row
+
+
 def long_files():
     """A file has at most 2 to the 20 bytes."""
     for length, status, output, notes in (2 ** 20, 0, b"verdict done\n", b""), (2 ** 20 + 1, 6, b"", b"too long\n"):
@@ -323,5 +338,5 @@ def long_files():
 def made():
     """All rows of this file."""
     every = (numbers_past_the_modulus, a_link_that_accepts_no_more, nobody_answers, full_table, routes_as_in_plain_lists, messages,
-             three_fragments, silence, each_seventh_frame_is_lost, lost_repeated_late, long_files)
+             three_fragments, silence, each_seventh_frame_is_lost, lost_repeated_late, vias, long_files)
     return (row for rows in every for row in rows())
