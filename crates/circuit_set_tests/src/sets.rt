@@ -8,11 +8,11 @@ use route_table::{RouteRules, RouteTable};
 use std::alloc::Global;
 use std::process::Abort;
 
-pub type Set = CircuitSet<PlainCarrier>;
+type Set = CircuitSet<PlainCarrier>;
 
-pub const NOW: Moment = Moment(0);
+const NOW: Moment = Moment(0);
 
-pub const RULES: RouteRules = RouteRules {
+const RULES: RouteRules = RouteRules {
     life: 6,
     least: 5,
     minq: 1,
@@ -44,11 +44,11 @@ const INFO: [u8; 25] = [
     0x09, 0x00, 0x00, 0x05, 0x68, 0x65, 0x6C, 0x6C, 0x6F,
 ];
 
-pub fn a_call() -> Call {
+fn a_call() -> Call {
     Call::read(b"N0AAA").unwrap_or_default()
 }
 
-pub fn b_call() -> Call {
+fn b_call() -> Call {
     Call::read(b"N0BBB").unwrap_or_default()
 }
 
@@ -61,7 +61,7 @@ fn router_of(alloc: Global, own: Call) -> Router<PlainCarrier> {
 }
 
 /// The set of a node without routes.
-pub fn made_set(alloc: Global, own: Call) -> Result<Set, NoMemory> {
+fn made_set(alloc: Global, own: Call) -> Result<Set, NoMemory> {
     CircuitSet::new(alloc, router_of(alloc, own), own, CONFIG, FIRST, 1)
 }
 

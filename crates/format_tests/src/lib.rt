@@ -7,6 +7,4 @@
 #[cfg(test)]
 mod addresses;
 #[cfg(test)]
-mod refused;
-#[cfg(test)]
 mod soak_files;

@@ -1,5 +1,4 @@
-//! Tests of links beside the rows of `examples/rows`: the lines that stand at a link and at a table of links, what the table's owner is told
-//! and refused, in which order texts come up, and what stands where memory is refused.
+//! Tests of links beside the rows of `examples/rows`: the lines that stand at a link and at a table of links, and links that its owner opens.
 //!
 //! They stand here and not in those crates, since a crate with tests is proved twice.
 #![tactic(auto)]
@@ -11,8 +10,4 @@ mod link;
 #[cfg(test)]
 mod opened;
 #[cfg(test)]
-mod refused;
-#[cfg(test)]
-mod rows;
-#[cfg(test)]
-mod texts;
+mod table;

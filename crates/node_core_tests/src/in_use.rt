@@ -1,16 +1,10 @@
 //! The lines that stand at `Node`. Called by `rt test`.
-use crate::nodes::{NOW, Trial, b_call, on_three_nodes, take_in};
+use crate::nodes::{BROADCAST, NOW, Trial, b_call, expect_frame, hear, on_a_node};
 use ax_link::LinkNotice;
 use circuit_table::SetEvent;
 use node_core::{ActDone, Node, NodeEntry, UserAct};
 use radio_base::Moment;
 use std::process::Abort;
-
-/// N0BBB's broadcast without entries.
-const BROADCAST: [u8; 23] = [
-    0x9C, 0x9E, 0x88, 0x8A, 0xA6, 0x40, 0xE0, 0x9C, 0x60, 0x84, 0x84, 0x84, 0x40, 0x61, 0x03, 0xCF,
-    0xFF, 0x42, 0x4E, 0x4F, 0x44, 0x45, 0x20,
-];
 
 /// N0AAA's SABM to N0BBB, and the UA as KISS bytes.
 const SET_UP: [u8; 15] = [
@@ -32,7 +26,7 @@ const ASKED: [u8; 51] = [
 
 #[test]
 fn a_node_in_use(rt: HostRuntime) {
-    on_three_nodes(&rt, rt.alloc(), Trial::InUse);
+    on_a_node(&rt, rt.alloc(), Trial::InUse);
 }
 
 /// The lines, in three steps: each lets its values go before the next.
@@ -46,7 +40,7 @@ pub fn use_node(rt: &impl Abort, node: &mut Node) {
 /// A neighbour is heard, and a circuit to it asked for.
 fn ask(rt: &impl Abort, node: &mut Node) {
     let neighbour = b_call();
-    assert!(rt; node.kiss_frame(&BROADCAST, NOW) == Ok(()));
+    hear(rt, node, &BROADCAST);
     assert!(rt; node.routes().next_hop(&neighbour) == Some(neighbour));
     assert!(rt;
         matches!(
@@ -75,15 +69,8 @@ fn expect_asking(rt: &impl Abort, node: &mut Node) {
 
 /// The neighbour accepts the link, and the request goes over it.
 fn open(rt: &impl Abort, node: &mut Node) {
-    take_in(rt, node, &ACCEPT);
+    assert!(rt; node.kiss_bytes(&ACCEPT, NOW) == Ok(()));
     let up = NodeEntry::Link(b_call(), LinkNotice::Opened);
     assert!(rt; node.trace_entry() == Some(up));
     expect_frame(rt, node, &ASKED);
-}
-
-fn expect_frame(rt: &impl Abort, node: &mut Node, octets: &[u8]) {
-    match node.next_frame() {
-        Some(frame) => assert!(rt; frame.octets.as_slice() == octets),
-        None => rt.abort(),
-    }
 }
