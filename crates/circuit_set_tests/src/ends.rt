@@ -3,7 +3,7 @@ use arrayvec::ArrayVec;
 use ax_address::Call;
 use circuit_l4::{End, EndConfig, EndNotice, Flags, Pair, Transport};
 use radio_base::Moment;
-use std::test::Fail;
+use std::process::Abort;
 
 const CONFIG: EndConfig = EndConfig {
     window: 4,
@@ -32,43 +32,57 @@ fn info(message: &[u8]) -> Transport {
     }
 }
 
-/// The lines that stand at `End`.
+/// The lines that stand at `End`, in three steps.
 #[test]
-fn an_end_in_use(rt: HostRuntime) -> Result<(), Fail> {
-    let (alloc, pair, config, now, message) = (rt.alloc(), OWN, CONFIG, NOW, [7]);
+fn an_end_in_use(rt: HostRuntime) {
     let (user, node) = (Call::default(), Call::default());
-    let (to, own) = (OWN, PARTNER);
-    let accept = Transport::Accept { to, own, window: 4 };
+    let made = End::requester(rt.alloc(), OWN, user, node, CONFIG, NOW);
+    let mut end = made.ok().expect(&rt, "memory");
+    open(&rt, &mut end);
+    write(&rt, &mut end);
+    close(&rt, &mut end);
+}
 
-    let mut end = End::requester(alloc, pair, user, node, config, now)?;
-    let request = end.next_out(); // a Request for the other end
-    assert!(rt; end.drained());
-    end.arrive(&accept, now);
-    let told = end.notice(); // Opened, with the window
-    assert!(rt; end.drained());
-    let answer = end.write(&message, now); // Ok
-    let text = end.next_out(); // an Info with the message, and the number of its fragment
-    assert!(rt; end.drained());
-    end.close(now); // a Disconnect follows once the message is acknowledged
+/// The next transport is this one, with the number of its fragment, and none is behind it.
+fn expect_out(rt: &impl Abort, end: &mut End, wanted: Transport, number: Option<u64>) {
+    assert!(rt; end.next_out() == Some((wanted, number)));
+    assert!(rt; end.next_out().is_none());
+}
 
-    let window = 4;
+fn open(rt: &impl Abort, end: &mut End) {
     let asked = Transport::Request {
-        pair,
-        window,
-        user,
-        node,
+        pair: OWN,
+        window: 4,
+        user: Call::default(),
+        node: Call::default(),
     };
-    assert!(rt; request == Some((asked, None)));
-    assert!(rt; told == Some(EndNotice::Opened { window }));
-    assert!(rt; answer == Ok(()));
-    assert!(rt; text == Some((info(&message), Some(0))));
-    let flags = Flags::default();
-    let rx = 1;
-    let got = Transport::InfoAck { to, rx, flags };
+    expect_out(rt, end, asked, None);
     assert!(rt; end.drained());
-    end.arrive(&got, now);
-    let released = Transport::Disconnect { to: PARTNER };
-    assert!(rt; end.next_out() == Some((released, None)));
-    assert!(rt; end.next_out() == None);
-    Ok(())
+    let accept = Transport::Accept {
+        to: OWN,
+        own: PARTNER,
+        window: 4,
+    };
+    end.arrive(&accept, NOW);
+    assert!(rt; end.notice() == Some(EndNotice::Opened { window: 4 }));
+}
+
+fn write(rt: &impl Abort, end: &mut End) {
+    assert!(rt; end.drained());
+    assert!(rt; end.write(&[7], NOW) == Ok(()));
+    expect_out(rt, end, info(&[7]), Some(0));
+}
+
+/// A Disconnect follows once the message is acknowledged.
+fn close(rt: &impl Abort, end: &mut End) {
+    assert!(rt; end.drained());
+    end.close(NOW);
+    assert!(rt; end.drained());
+    let got = Transport::InfoAck {
+        to: OWN,
+        rx: 1,
+        flags: Flags::default(),
+    };
+    end.arrive(&got, NOW);
+    expect_out(rt, end, Transport::Disconnect { to: PARTNER }, None);
 }

@@ -5,7 +5,6 @@ use radio_base::Moment;
 use route_table::{RouteRules, RouteTable};
 use std::alloc::Global;
 use std::process::Abort;
-use std::test::Fail;
 
 const NOW: Moment = Moment(0);
 
@@ -56,34 +55,55 @@ fn table(rt: &impl Abort, alloc: Global) -> RouteTable {
     table
 }
 
-/// The lines that stand at `Router`.
+/// The lines that stand at `Router`, in three steps.
 #[test]
-fn a_router_in_use(rt: HostRuntime) -> Result<(), Fail> {
-    let (alloc, own, now) = (rt.alloc(), call(b"N0CCC"), NOW);
-    let (dest, neighbour, transport) = (call(b"N0AAA"), call(b"N0BBB"), TRANSPORT);
-    let (ours, others) = (datagram(&OURS), datagram(&CAME));
+fn a_router_in_use(rt: HostRuntime) {
+    let alloc = rt.alloc();
     let table = table(&rt, alloc);
+    let mut router = Router::new(alloc, call(b"N0CCC"), table, PlainCarrier::new(alloc), 25);
+    send(&rt, &mut router);
+    take(&rt, &mut router);
+    hand_on(&rt, &mut router);
+}
 
-    let mut router = Router::new(alloc, own, table, PlainCarrier::new(alloc), 25);
-    let sent = router.send(&dest, &transport, now)?; // Sent
-    let out = router.carrier_mut().fetch(); // the next hop, and the datagram
-    router.carrier_mut().bring(&neighbour, &ours)?;
-    let up = router.pump(now)?; // Mine, with its origin
-    router.carrier_mut().bring(&neighbour, &others)?;
-    let on = router.pump(now)?; // Forwarded
-    let went = router.carrier_mut().fetch(); // the next hop, and the datagram with one hop less
-    let none = router.pump(now)?; // None
+/// The carrier was given this datagram for N0AAA.
+fn expect_offered(rt: &impl Abort, router: &mut Router<PlainCarrier>, octets: &[u8]) {
+    let offered = router.carrier_mut().fetch();
+    assert!(rt; offered == Some((call(b"N0AAA"), datagram(octets))));
+}
 
-    assert!(rt; sent == Sending::Sent);
-    assert!(rt; out == Some((dest, datagram(&SENT))));
-    let (origin, datagram_up) = (neighbour, ours);
+/// A datagram comes from N0BBB.
+fn bring(rt: &impl Abort, router: &mut Router<PlainCarrier>, octets: &[u8]) {
+    let brought = router
+        .carrier_mut()
+        .bring(&call(b"N0BBB"), &datagram(octets));
+    assert!(rt; brought == Ok(()));
+}
+
+fn expect_routed(rt: &impl Abort, router: &mut Router<PlainCarrier>, wanted: Option<Routed>) {
+    assert!(rt; router.pump(NOW) == Ok(wanted));
+}
+
+fn send(rt: &impl Abort, router: &mut Router<PlainCarrier>) {
+    let sent = router.send(&call(b"N0AAA"), &TRANSPORT, NOW);
+    assert!(rt; sent == Ok(Sending::Sent));
+    expect_offered(rt, router, &SENT);
+}
+
+/// What is for the node comes up.
+fn take(rt: &impl Abort, router: &mut Router<PlainCarrier>) {
+    bring(rt, router, &OURS);
     let mine = Routed::Mine {
-        origin,
-        datagram: datagram_up,
+        origin: call(b"N0BBB"),
+        datagram: datagram(&OURS),
     };
-    assert!(rt; up == Some(mine));
-    assert!(rt; on == Some(Routed::Forwarded));
-    assert!(rt; went == Some((dest, datagram(&WENT))));
-    assert!(rt; none == None);
-    Ok(())
+    expect_routed(rt, router, Some(mine));
+}
+
+/// What is for another node goes on, with one hop less.
+fn hand_on(rt: &impl Abort, router: &mut Router<PlainCarrier>) {
+    bring(rt, router, &CAME);
+    expect_routed(rt, router, Some(Routed::Forwarded));
+    expect_offered(rt, router, &WENT);
+    expect_routed(rt, router, None);
 }

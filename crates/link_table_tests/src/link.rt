@@ -4,7 +4,7 @@ use arrayvec::ArrayVec;
 use ax_frame::Control;
 use ax_link::{Link, LinkNotice};
 use radio_base::{M8, Payload};
-use std::test::Fail;
+use std::process::Abort;
 
 fn payload() -> Payload {
     let mut info = ArrayVec::new();
@@ -12,31 +12,50 @@ fn payload() -> Payload {
     Payload { pid: 0xF0, info }
 }
 
-/// The lines that stand at `Link`.
+/// The lines that stand at `Link`, in three steps.
 #[test]
-fn a_link_in_use(rt: HostRuntime) -> Result<(), Fail> {
-    let (alloc, config, now, payload) = (rt.alloc(), CONFIG, NOW, payload());
+fn a_link_in_use(rt: HostRuntime) {
+    let made = Link::<M8>::new(rt.alloc(), CONFIG);
+    let mut link = made.ok().expect(&rt, "memory");
+    set_up(&rt, &mut link);
+    send(&rt, &mut link);
+    close(&rt, &mut link);
+}
 
-    let mut link = Link::<M8>::new(alloc, config)?;
-    link.set_up(now);
-    let set_up = link.next_out(); // a SABM for the other station
-    assert!(rt; link.drained());
-    link.arrive(false, &Control::Ua { pf: true }, None, &[], now);
-    let told = link.notice(); // Opened
-    assert!(rt; link.drained());
-    let answer = link.send(&payload, now); // Ok
-    let text = link.next_out(); // an I with the payload
-    assert!(rt; link.drained());
-    link.close(now); // a DISC follows once the payload is acknowledged
+/// The next frame is this one, and none is behind it.
+fn expect_out(rt: &impl Abort, link: &mut Link<M8>, control: Control, payload: Option<Payload>) {
+    match link.next_out() {
+        Some(out) => assert!(rt; out.control == control && out.payload == payload),
+        None => rt.abort(),
+    }
+    assert!(rt; link.next_out().is_none());
+}
 
-    let set_up = set_up.expect(&rt, "a set-up");
-    assert!(rt; set_up.control == Control::Sabm { pf: true });
-    assert!(rt; told == Some(LinkNotice::Opened));
-    assert!(rt; answer == Ok(()));
-    assert!(rt; text.expect(&rt, "a text").payload == Some(payload));
+fn set_up(rt: &impl Abort, link: &mut Link<M8>) {
     assert!(rt; link.drained());
-    link.arrive(false, &Control::Rr { nr: 1, pf: false }, None, &[], now);
-    let release = link.next_out().expect(&rt, "a release");
-    assert!(rt; release.control == Control::Disc { pf: true });
-    Ok(())
+    link.set_up(NOW);
+    expect_out(rt, link, Control::Sabm { pf: true }, None);
+    assert!(rt; link.drained());
+    link.arrive(false, &Control::Ua { pf: true }, None, &[], NOW);
+    assert!(rt; link.notice() == Some(LinkNotice::Opened));
+}
+
+fn send(rt: &impl Abort, link: &mut Link<M8>) {
+    assert!(rt; link.drained());
+    assert!(rt; link.send(&payload(), NOW) == Ok(()));
+    let text = Control::I {
+        ns: 0,
+        nr: 0,
+        pf: false,
+    };
+    expect_out(rt, link, text, Some(payload()));
+}
+
+/// A DISC follows once the payload is acknowledged.
+fn close(rt: &impl Abort, link: &mut Link<M8>) {
+    assert!(rt; link.drained());
+    link.close(NOW);
+    assert!(rt; link.drained());
+    link.arrive(false, &Control::Rr { nr: 1, pf: false }, None, &[], NOW);
+    expect_out(rt, link, Control::Disc { pf: true }, None);
 }

@@ -1,10 +1,12 @@
 //! The lines that stand at `LinkTable`. Called by `rt test`.
 use crate::common::{NOW, call, expect_octets, table};
+use ax_address::Call;
 use ax_frame::read_frame;
 use ax_link::LinkNotice;
 use l3_datagram::{Carrier, Datagram, Offered};
+use link_table::LinkTable;
 use radio_base::M8;
-use std::test::Fail;
+use std::process::Abort;
 
 /// N0AAA's SABM to N0BBB, and the UA.
 const SET_UP: [u8; 15] = [
@@ -35,30 +37,48 @@ fn datagram_in(frame: &[u8; 36]) -> Datagram {
     datagram
 }
 
-/// The lines that stand at `LinkTable`.
+/// The lines that stand at `LinkTable`, in four steps.
 #[test]
-fn a_table_in_use(rt: HostRuntime) -> Result<(), Fail> {
-    let (peer, now) = (call(b"N0BBB"), NOW);
-    let datagram = datagram_in(&SENT);
-    let accept = read_frame::<M8>(&ACCEPT)?;
-    let answer = read_frame::<M8>(&ANSWER)?;
-
+fn a_table_in_use(rt: HostRuntime) {
     let mut table = table(&rt, rt.alloc());
-    let offered = table.offer(&peer, &datagram, now)?; // Taken
-    let set_up = table.next_out(); // a SABM for the peer, in octets
-    table.arrive(&accept, now)?; // its UA
-    let told = table.notice(); // the peer, and Opened
-    let sent = table.next_out(); // an I with the datagram
-    table.arrive(&answer, now)?; // an I of the peer
-    let came = table.collect(); // the peer, and its datagram
-    table.break_link(&peer)?;
-    let lost = table.failed(); // the peer
+    offer(&rt, &mut table);
+    open(&rt, &mut table);
+    collect(&rt, &mut table);
+    lose(&rt, &mut table);
+}
 
-    assert!(rt; offered == Offered::Taken);
-    expect_octets(&rt, &set_up, &SET_UP);
-    assert!(rt; told == Some((peer, LinkNotice::Opened)));
-    expect_octets(&rt, &sent, &SENT);
-    assert!(rt; came == Some((peer, datagram_in(&ANSWER))));
-    assert!(rt; lost == Some(peer));
-    Ok(())
+fn peer() -> Call {
+    call(b"N0BBB")
+}
+
+fn expect_frame(rt: &impl Abort, table: &mut LinkTable, octets: &[u8]) {
+    expect_octets(rt, &table.next_out(), octets);
+}
+
+fn hear(rt: &impl Abort, table: &mut LinkTable, octets: &[u8]) {
+    match read_frame::<M8>(octets) {
+        Ok(frame) => assert!(rt; table.arrive(&frame, NOW) == Ok(())),
+        Err(_) => rt.abort(),
+    }
+}
+
+fn offer(rt: &impl Abort, table: &mut LinkTable) {
+    assert!(rt; table.offer(&peer(), &datagram_in(&SENT), NOW) == Ok(Offered::Taken));
+    expect_frame(rt, table, &SET_UP);
+}
+
+fn open(rt: &impl Abort, table: &mut LinkTable) {
+    hear(rt, table, &ACCEPT);
+    assert!(rt; table.notice() == Some((peer(), LinkNotice::Opened)));
+    expect_frame(rt, table, &SENT);
+}
+
+fn collect(rt: &impl Abort, table: &mut LinkTable) {
+    hear(rt, table, &ANSWER);
+    assert!(rt; table.collect() == Some((peer(), datagram_in(&ANSWER))));
+}
+
+fn lose(rt: &impl Abort, table: &mut LinkTable) {
+    assert!(rt; table.break_link(&peer()) == Ok(()));
+    assert!(rt; table.failed() == Some(peer()));
 }
