@@ -1,0 +1,4 @@
+mod Waiting
+mod Loops
+mod Going
+pub mod Fetched

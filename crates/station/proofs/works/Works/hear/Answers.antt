@@ -1,0 +1,6 @@
+use Rattle.std.proofs.Common.{refl}
+use Rattle.station.proofs.Going.{users_go}
+use Rattle.station.proofs.works.Works.hear.Goals as goal
+
+pub returns : goal.returns
+returns c = λ s stands. c.in_ok-settle.ensures _ (users_go _ c.args.self.now _ s c.in_ok-hear_frame.ensures.goes refl refl stands)

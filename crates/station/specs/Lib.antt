@@ -1,0 +1,4 @@
+pub mod Outs
+pub mod States
+pub mod Fetching
+pub mod Standing

@@ -1,0 +1,3 @@
+mod Items
+mod Pieces
+mod Reading

@@ -1,0 +1,8 @@
+use Rattle.std.specs.Prelude.{length}
+use Rattle.station_users.specs.States.{at_nth}
+use Rattle.station_users.specs.Serving.{notes_waits, settled}
+use Rattle.station_users.proofs.Loops.{Each}
+use Rattle.station_users.proofs.hall.Hall.settled.Given as goal
+
+abbrev pub invariant-loop-nth : goal.invariant-loop-nth
+invariant-loop-nth l = Each (λ nth u. at_nth nth notes_waits u) (λ u. length u.sessions) l.nth l.fn.self l.self
