@@ -1,7 +1,8 @@
-# Sourced by both launchers, ./build, the gate and packaging/static, with `top` naming the repository: what stands in out/, and whether it is
-# of today's sources. There are two programs, which are built together: wursthatch, and wursthatch-look of the crate wursthatch_look.
+# Sourced by the launchers, ./build, the gate and packaging/static, with `top` naming the repository: what stands in out/, and whether it is
+# of today's sources. The programs, which are built together, are called as their crates are, with a - for each _.
 # shellcheck shell=sh disable=SC2154,SC3013 # (who sources it sets what isn't set here; -nt is no standard, but in each shell)
 program=$top/out/wursthatch
+programs="wursthatch wursthatch_look wursthatch_station"
 
 # Whether a proved program is kept of which no source is newer. ./wursthatch asks this before each run, so it is done by the shell
 # alone. What a program does hangs on src/ of its crates: an edit of specs/ or proofs/ alone calls for no other program.
@@ -17,10 +18,9 @@ is_built() {
 
 # The crates that the programs stand on, and their own.
 program_crates() {
-    awk -F '[: ]+' '
+    awk -F '[: ]+' -v todo="$programs" '
         !/^#/ && NF { named[$1] = 1; for (nth = 2; nth <= NF; nth++) below[$1] = below[$1] " " $nth }
         END {
-            todo = "wursthatch wursthatch_look"
             while (split(todo, crates, " ")) {
                 todo = ""
                 for (nth in crates) if (crates[nth] in named && !(crates[nth] in is_used)) {

@@ -14,6 +14,10 @@ read_input() {
             return 1
         }
         ;;
+    run)
+        say "run needs the built program: ./build makes it"
+        return 1
+        ;;
     replay | frames | life | listen | trace) ;;
     *) return 0 ;;
     esac
