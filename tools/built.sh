@@ -1,15 +1,17 @@
 # Sourced by the launchers, ./build, the gate and packaging/static, with `top` naming the repository: what stands in out/, and whether it is
-# of today's sources. The programs, which are built together, are called as their crates are, with a - for each _.
+# of today's sources. A program is called as its crate is, with a - for each _. wursthatch and wursthatch-look are built together; where `of`
+# is `station-` and not empty, it is all about wursthatch-station, which is built alone, so that nobody else builds what it alone takes.
 # shellcheck shell=sh disable=SC2154,SC3013 # (who sources it sets what isn't set here; -nt is no standard, but in each shell)
 program=$top/out/wursthatch
-programs="wursthatch wursthatch_look wursthatch_station"
+programs="wursthatch wursthatch_look"
+[ -z "$of" ] || program=$top/out/wursthatch-station programs=wursthatch_station
 
 # Whether a proved program is kept of which no source is newer. ./wursthatch asks this before each run, so it is done by the shell
 # alone. What a program does hangs on src/ of its crates: an edit of specs/ or proofs/ alone calls for no other program.
 is_built() {
-    [ -x "$program" ] && [ -r "$top/out/sources" ] || return 1
+    [ -x "$program" ] && [ -r "$top/out/${of}sources" ] || return 1
     # shellcheck source=/dev/null
-    . "$top/out/sources"
+    . "$top/out/${of}sources"
     for file in $sources; do
         [ "$top/$file" -nt "$program" ] && return 1
     done

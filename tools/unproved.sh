@@ -10,19 +10,19 @@ read_input() {
     node | ip)
         # (a partner waits for its answers, and an unproved run has none before its input ends)
         [ -f /dev/stdin ] || [ /dev/stdin -ef /dev/null ] || {
-            say "$1 needs the built program where its input is no file: ./build makes it"
+            say "$1 needs the built program where its input is no file: $build makes it"
             return 1
         }
         ;;
     run)
-        say "run needs the built program: ./build makes it"
+        say "run needs the built program: $build makes it"
         return 1
         ;;
     replay | frames | life | listen | trace) ;;
     *) return 0 ;;
     esac
     cat >"$room/input" || { say "standard input can't be read"; return 1; }
-    [ "$(wc -c <"$room/input")" -le 67108864 ] || { say "more than 64 MiB of input need the built program: ./build makes it"; return 1; }
+    [ "$(wc -c <"$room/input")" -le 67108864 ] || { say "more than 64 MiB of input need the built program: $build makes it"; return 1; }
 }
 
 # Runs the code unproved, and ends as it ended. `rt try` puts its own lines behind what the program wrote to standard error.
@@ -41,7 +41,7 @@ run_unproved() {
     status=$(sed -n '$s/^run=ended status=\([0-9]*\) .*proved=no$/\1/p' "$room/notes")
     [ "$status" ] || {
         cat "$room/notes" >&2
-        say "the unproved run gave no answer: it has a minute and 1 MiB of output, and stops at a fault; ./build makes the proved program"
+        say "the unproved run gave no answer: it has a minute and 1 MiB of output, and stops at a fault; $build makes the proved program"
         exit 1
     }
     sed '$d' "$room/notes" | sed '${/^checked: ended status=[0-9]*$/d}' >&2
@@ -49,6 +49,7 @@ run_unproved() {
     exit "$status"
 }
 
+build="./build${of:+ station}"
 case "$*" in
 # the program's own usage line, which the gate compares with what the program writes (other characters are in no command's words, and
 # `rt try` takes no words that are no text)
@@ -57,5 +58,5 @@ esac
 command -v rt >/dev/null || { say "nothing is built, and there is no rt on this machine: install the Rattle kit first"; exit 1; }
 why="nothing is built"
 [ ! -x "$program" ] || why="sources are newer than what was built"
-say "$why: this runs the code unproved, about a minute, small runs alone, output at the end; ./build proves it"
+say "$why: this runs the code unproved, about a minute, small runs alone, output at the end; $build proves it"
 run_unproved "$@"
