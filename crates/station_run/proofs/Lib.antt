@@ -1,0 +1,3 @@
+mod OneRead
+mod Endings
+mod Commands
