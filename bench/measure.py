@@ -22,7 +22,7 @@ sys.exit(status != 0)
 
 def program(crate):
     """The built program of a crate, or the one that ./build leaves in out/ under this name."""
-    if crate in ("wursthatch", "wursthatch-look"):
+    if crate in ("wursthatch", "wursthatch-look", "wursthatch-station"):
         return os.path.join(TOP, "out", crate)
     return os.path.join(TOP, "crates", crate, "out", crate)
 
