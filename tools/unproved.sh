@@ -34,7 +34,13 @@ run_unproved() {
     : >"$room/input"
     read_input "$@" || exit 1
     # (beside the shell, which would else heed no signal before it ends)
-    (cd "$top/crates/$crate" && exec rt try -- "$@") <"$room/input" >"$room/output" 2>"$room/notes" &
+    # (`rt try` runs in a folder of its own, so a file that is read has to be named to it)
+    if [ "$1 $#" = "check 2" ] && [ -f "$2" ]; then
+        set -- --data "$(basename "$2")=$(readlink -f "$2")" -- check "$(basename "$2")"
+    else
+        set -- -- "$@"
+    fi
+    (cd "$top/crates/$crate" && exec rt try "$@") <"$room/input" >"$room/output" 2>"$room/notes" &
     run=$!
     wait "$run"
     run=

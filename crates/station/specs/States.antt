@@ -47,7 +47,7 @@ first_frame s = slice_get (members_of s).desk.air.frames 0
 abbrev pub frame_fetched : StationState → StationState
 frame_fetched s = at_users (users.at_members members.fetch_frame) s
 
--- they are put out, the oldest first, so many at most
+-- they are put out, the oldest first, so many at most: what is left waits for the next time
 abbrev pub fetch_frames_by : Option PortFrame → (StationState → StationState) → StationState → StationState
 fetch_frames_by None later s = frame_fetched s
 fetch_frames_by (Some frame) later s = later (put_frame frame (frame_fetched s))
@@ -56,7 +56,7 @@ abbrev pub fetch_frames : ℕ → StationState → StationState
 fetch_frames zero s = s
 fetch_frames (suc left) s = fetch_frames_by (first_frame s) (fetch_frames left) s
 
--- all of them, as far as the code goes
+-- at most 1,000,000 of them are
 unfoldable pub put_frames : StationState → StationState
 put_frames s = fetch_frames 1000000 s
 
@@ -95,6 +95,7 @@ abbrev pub fetch_told : ℕ → StationState → StationState
 fetch_told zero s = s
 fetch_told (suc left) s = fetch_told_by (first_told s) (fetch_told left) s
 
+-- at most 1,000,000 things: others are read in the next turn
 unfoldable pub all_told : StationState → List (ℕ × Entry)
 all_told s = told 1000000 s
 
