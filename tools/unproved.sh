@@ -33,13 +33,13 @@ run_unproved() {
     trap 'exit 1' HUP INT TERM
     : >"$room/input"
     read_input "$@" || exit 1
-    # (beside the shell, which would else heed no signal before it ends)
     # (`rt try` runs in a folder of its own, so a file that is read has to be named to it)
     if [ "$1 $#" = "check 2" ] && [ -f "$2" ]; then
         set -- --data "$(basename "$2")=$(readlink -f "$2")" -- check "$(basename "$2")"
     else
         set -- -- "$@"
     fi
+    # (beside the shell, which would else heed no signal before it ends)
     (cd "$top/crates/$crate" && exec rt try "$@") <"$room/input" >"$room/output" 2>"$room/notes" &
     run=$!
     wait "$run"
