@@ -1,4 +1,4 @@
-//! Tests of links beside the rows of `examples/rows`: the lines that stand at a link and at a table of links, and links that its owner opens.
+//! The lines that stand at a link and at a table of links: all else is shown by the rows of `examples/rows` and `examples/station`.
 //!
 //! They stand here and not in those crates, since a crate with tests is proved twice.
 #![tactic(auto)]
@@ -7,7 +7,5 @@
 mod common;
 #[cfg(test)]
 mod link;
-#[cfg(test)]
-mod opened;
 #[cfg(test)]
 mod table;

@@ -1,5 +1,5 @@
 -- The commands, and the words that ask for them. Own profile.
-use Rattle.std.specs.Prelude.{ℕ, ◌≡◌, ◌⊎◌, ◌+◌, ◌==◌, nat_eq, Bool, List, ◌∷◌, [], codes, drop, map, position, take, Option, Some, None, String, string_bytes, if◌then◌else◌}
+use Rattle.std.specs.Prelude.{ℕ, ◌≡◌, ◌≤◌, ◌⊎◌, ◌+◌, ◌==◌, nat_eq, Bool, List, ◌∷◌, [], codes, drop, length, map, position, take, Option, Some, None, String, string_bytes, if◌then◌else◌}
 use Rattle.std.specs.Cmp.Lexicographic.{pointwise}
 use Rattle.std.specs.declared.alloc.Global.{Global}
 use Rattle.circuit_l4.specs.declared.pair.Pair.{Pair}
@@ -38,10 +38,11 @@ pair_at word = if pointwise nat_eq (take 5 word) (codes "pair=") then pair_behin
 abbrev pub first_pair : Pair
 first_pair = record { index = 1; ident = 1 }
 
--- `check` of a file; `run` of one, with the pair that each member gives first
+-- `check` of a file; `run` of one, with the pair that each member gives first; `try` of some
 pub data Asked : Type 0 where
   Check : List ℕ → Asked
   Run : List ℕ → Pair → Asked
+  Try : List (List ℕ) → Asked
 
 -- the words behind `run` name a file, and a pair or none
 abbrev pub AreOfRun : List (List ℕ) → List ℕ → Pair → Type 0
@@ -51,6 +52,8 @@ AreOfRun words file pair =
 abbrev pub Ask : List (List ℕ) → Asked → Type 0
 Ask words (Check file) = words ≡ codes "check" ∷ file ∷ []
 Ask words (Run file pair) = (later : List (List ℕ)) × (words ≡ codes "run" ∷ later) × AreOfRun later file pair
+-- up to 8 files
+Ask words (Try files) = (words ≡ codes "try" ∷ files) × (1 ≤ length files) × (length files ≤ 8)
 
 abbrev pub texts_of : List (String Global) → List (List ℕ)
 texts_of words = map (λ w. string_bytes w) words
@@ -63,11 +66,13 @@ AskFor words asked = Ask (texts_of words) asked
 abbrev pub asked : StationCommand → Asked
 asked (code.Check file) = Check file.now
 asked (code.Run file pair) = Run file.now pair
+asked (code.Try files) = Try (texts_of files.now)
 
 -- the pair of `run` is one that a member can give
 abbrev pub HasPair : StationCommand → Type 0
 HasPair (code.Run file pair) = IsPair pair
 HasPair (code.Check file) = Unit {0}
+HasPair (code.Try files) = Unit {0}
 
 -- the words ask for the command; where there is none they ask for nothing
 abbrev pub IsCommandOf : List (List ℕ) → Option StationCommand → Type 0

@@ -7,6 +7,9 @@ ghost use Rattle.station_cmd.specs.Words.{IsCommandOf, texts_of};
 use circuit_l4::Pair;
 use text_lines::number_of;
 
+/// The most files of `try`.
+const MAX_FILES: usize = 8;
+
 /// What the program can do.
 #[derive(Clone, Copy, Debug)]
 pub enum StationCommand<'a> {
@@ -14,6 +17,8 @@ pub enum StationCommand<'a> {
     Check { file: &'a str },
     /// `run FILE`, and `pair=I,D` for the pair that each member gives first: each number from 1 to 255, (1, 1) where none is named
     Run { file: &'a str, pair: Pair },
+    /// `try FILE..`, of at most 8 files
+    Try { files: &'a [String] },
 }
 
 /// The command that the words ask for.
@@ -34,6 +39,8 @@ fn command_behind<'a>(word: &[u8], rest: &'a [String]) -> Option<StationCommand<
         check_of(rest)
     } else if is_run(word) {
         run_of(rest)
+    } else if is_try(word) {
+        try_of(rest)
     } else {
         None
     }
@@ -80,6 +87,21 @@ fn run_with<'a>(file: &'a str, word: &[u8]) -> Option<StationCommand<'a>>
     }
 }
 
+/// `try` of some files.
+fn try_of(files: &[String]) -> Option<StationCommand<'_>>
+    ensures { IsCommandOf (codes "try" ∷ texts_of files.now) result }
+{
+    let count = files.len();
+    if count == 0 {
+        return None;
+    }
+    if count > MAX_FILES {
+        None
+    } else {
+        Some(StationCommand::Try { files })
+    }
+}
+
 fn is_check(word: &[u8]) -> bool
     ensures { IsTrue result ↔ (word.now ≡ codes "check") }
 {
@@ -90,6 +112,12 @@ fn is_run(word: &[u8]) -> bool
     ensures { IsTrue result ↔ (word.now ≡ codes "run") }
 {
     word == b"run".as_slice()
+}
+
+fn is_try(word: &[u8]) -> bool
+    ensures { IsTrue result ↔ (word.now ≡ codes "try") }
+{
+    word == b"try".as_slice()
 }
 
 /// `pair=I,D`, each number from 1 to 255.

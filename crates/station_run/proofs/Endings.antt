@@ -1,15 +1,19 @@
--- How `run` ends, from how a stream was answered, and where a file has no station.
-use Rattle.std.proofs.Common.{◌≡◌, ℕ, List, Bool, inl, inr}
-use Rattle.std.specs.Prelude.{Option}
+-- How `run` and `try` end, from how a stream was answered, and where a file has no station.
+use Rattle.std.proofs.Common.{◌≡◌, ◌⊎◌, ℕ, List, Bool, inl, inr, refl, length}
+use Rattle.std.specs.Prelude.{Option, Contains}
+use Rattle.std.specs.List.{AllByRecursion}
 use Rattle.cmd_streams.specs.declared.status.Status.{Status}
 use Rattle.cmd_streams.specs.declared.status.Status.TheVariants.{Done, Usage, BadFile, ReadFault, WriteFault, TooLong, TooLate, NoMemory}
 use Rattle.cmd_streams.specs.Streams.{Read}
-use Rattle.cmd_streams.specs.Told.{StreamsTold, read_fault_note, too_long_note}
+use Rattle.cmd_streams.specs.Told.{IsNoted, StreamsTold, read_fault_note, too_long_note}
 use Rattle.cmd_streams.specs.Wider.{answers-map, earlier-map, some-map, Wider}
-use Rattle.station_cmd.specs.Files.{HasNoStation, IsNotedAs, IsUnread}
+use Rattle.station_cmd.specs.Files.{HasNoStation, IsFileOf, IsNotedAs, IsUnread}
+use Rattle.station_file.specs.Station.{Station}
 use Rattle.station_file.specs.declared.refusal.Refusal.{Refusal}
 use Rattle.station_streams.specs.Ends.{TellerEnds}
 use Rattle.station_streams.specs.Telling.{Notes, NotesAnd}
+use Rattle.station_run.specs.Ends.{IsStarved, IsUntouched, TryEnds}
+use Rattle.station_run.specs.Typing.{IsTried, IsTriedToEnd}
 
 -- ---- a file of no station
 
@@ -102,3 +106,22 @@ ends_wider most A B E F moments moments' before after status took ended e =
       ];
       others = e.others;
     }
+
+-- ---- what was tried
+
+pub tried_or_starved : (files : List Station) (paths : List (List ℕ)) (moments moments' : Option (List ℕ)) (before after : StreamsTold) (status : Status)
+    → AllByRecursion IsFileOf files → length files ≡ length paths
+    → IsStarved moments moments' before after status ⊎ TellerEnds 4096 (IsTried files) (IsTriedToEnd files) moments moments' before after status
+    → TryEnds paths moments moments' before after status
+tried_or_starved files paths moments moments' before after status are many (inl starved) = inr (inl starved)
+tried_or_starved files paths moments moments' before after status are many (inr ends) = inr (inr (files, are, many, ends))
+
+-- what is said of the notes of a command that only notes is said of all its streams
+pub untried : (paths : List (List ℕ)) (moments : Option (List ℕ)) (before after : StreamsTold) (Same : Type 0) (Noted : List ℕ → Type 0) (status : Status)
+    → IsUntouched moments moments before after → (Same → after ≡ before) → ((text : List ℕ) → Noted text → IsNoted before after text)
+    → ((status ≡ NoMemory) × Same) ⊎ ((path : List ℕ) × Contains paths path × HasNoStation path status Same Noted)
+    → TryEnds paths moments moments before after status
+untried paths moments before after Same Noted status untouched same noted (inl starved) =
+    inr (inl (record { starved = starved.0; same = same starved.1; timeless = refl }))
+untried paths moments before after Same Noted status untouched same noted (inr lacks) =
+    inl (lacks.0, lacks.1, (no_station lacks.0 status Same (after ≡ before) Noted (IsNoted before after) same noted lacks.2, untouched))

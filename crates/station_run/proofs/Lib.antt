@@ -1,3 +1,5 @@
 mod OneRead
+mod OneByte
 mod Endings
 mod Commands
+mod Files

@@ -1,5 +1,6 @@
--- How `run` ends. Own profile.
-use Rattle.std.specs.Prelude.{ℕ, ◌≡◌, ◌⊎◌, List, Option}
+-- How `run` and `try` end. Own profile.
+use Rattle.std.specs.Prelude.{ℕ, ◌≡◌, ◌⊎◌, List, Option, length, Contains}
+use Rattle.std.specs.List.{AllByRecursion}
 use Rattle.circuit_l4.specs.declared.pair.Pair.{Pair}
 use Rattle.cmd_streams.specs.declared.status.Status.{Status}
 use Rattle.cmd_streams.specs.declared.status.Status.TheVariants.{NoMemory}
@@ -8,6 +9,7 @@ use Rattle.station_cmd.specs.Files.{HasNoStation, IsFileOf}
 use Rattle.station_file.specs.Station.{Station}
 use Rattle.station_streams.specs.Ends.{TellerEnds}
 use Rattle.station_run.specs.Living.{IsSent, IsSentToEnd}
+use Rattle.station_run.specs.Typing.{IsTried, IsTriedToEnd}
 
 -- nothing was read or written, and no clock was asked
 pub record IsUntouched (moments moments' : Option (List ℕ)) (before after : StreamsTold) : Type 0 where
@@ -36,3 +38,11 @@ RunEnds path pair moments moments' before after status =
     ⊎ ((file : Station) × IsFileOf file
     × (IsStarved moments moments' before after status
     ⊎ TellerEnds 4096 (IsSent pair file) (IsSentToEnd pair file) moments moments' before after status))
+
+-- `try` of files: as many files of stations were read, and those were tried on what was typed
+abbrev pub TryEnds : List (List ℕ) → Option (List ℕ) → Option (List ℕ) → StreamsTold → StreamsTold → Status → Type 0
+TryEnds paths moments moments' before after status =
+    ((path : List ℕ) × Contains paths path × LacksStation path moments moments' before after status)
+    ⊎ (IsStarved moments moments' before after status
+    ⊎ ((files : List Station) × AllByRecursion IsFileOf files × (length files ≡ length paths)
+    × (TellerEnds 4096 (IsTried files) (IsTriedToEnd files) moments moments' before after status)))

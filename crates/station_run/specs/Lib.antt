@@ -1,3 +1,4 @@
 pub mod Living
+pub mod Typing
 pub mod Usage
 pub mod Ends

@@ -3,4 +3,4 @@ use Rattle.std.specs.Prelude.{ℕ, List, codes}
 
 -- all commands with their words
 abbrev pub usage_note : List ℕ
-usage_note = codes "usage: wursthatch-station check FILE | run FILE [pair=I,D]\n"
+usage_note = codes "usage: wursthatch-station check FILE | run FILE [pair=I,D] | try FILE..\n"

@@ -3,11 +3,12 @@ ghost use Rattle.std.specs.Prelude.{◌≡◌, ◌↔◌, List, ℕ};
 ghost use Rattle.circuit_l4.specs.declared.pair.Pair.{Pair};
 ghost use Rattle.cmd_streams.specs.Told.{SaysTo, output_by, told_by};
 ghost use Rattle.station_cmd.specs.Checking.{ChecksFile};
-ghost use Rattle.station_cmd.specs.Words.{Asked, AskFor, Check, Run};
-ghost use Rattle.station_run.specs.Ends.{RunEnds};
+ghost use Rattle.station_cmd.specs.Words.{Asked, AskFor, Check, Run, Try};
+ghost use Rattle.station_run.specs.Ends.{RunEnds, TryEnds};
 ghost use Rattle.station_run.specs.Usage.{usage_note};
 
 use crate::runs::run_file;
+use crate::tries::try_files;
 use crate::usage::USAGE;
 use cmd_streams::{Status, say};
 use radio_base::{Clock, Sink, Source};
@@ -15,7 +16,7 @@ use station_cmd::{StationCommand, check, command_of};
 use std::rt::Files;
 
 /// Does what the words ask for, over these files and streams: `check` tells what a station of a file would run; `run` runs it on a KISS
-/// stream.
+/// stream, and `try` up to 8 stations in virtual time on lines that are typed.
 ///
 /// The status says how it ended, and where words, files or input were refused the notes say why.
 pub fn run<R: Files + AllocGlobal, S: Source, K: Sink, N: Sink, C: Clock>(
@@ -41,6 +42,10 @@ pub fn run<R: Files + AllocGlobal, S: Source, K: Sink, N: Sink, C: Clock>(
         → RunEnds file pair (C.given clock.old) (C.given clock.new)
         (told_by S.Source K.Sink N.Sink source.old sink.old notes.old)
         (told_by S.Source K.Sink N.Sink source.new sink.new notes.new) result }
+    ensures tries { (files : List (List ℕ)) → AskFor words.now (Try files)
+        → TryEnds files (C.given clock.old) (C.given clock.new)
+        (told_by S.Source K.Sink N.Sink source.old sink.old notes.old)
+        (told_by S.Source K.Sink N.Sink source.new sink.new notes.new) result }
 
     // `check` reads nothing but the file.
     ensures sourceless { (file : List ℕ) → AskFor words.now (Check file) → source.new ≡ source.old }
@@ -50,6 +55,7 @@ pub fn run<R: Files + AllocGlobal, S: Source, K: Sink, N: Sink, C: Clock>(
         Some(StationCommand::Run { file, pair }) => {
             run_file(rt, file, pair, source, sink, notes, clock)
         }
+        Some(StationCommand::Try { files }) => try_files(rt, files, source, sink, notes, clock),
         None => {
             say(notes, USAGE);
             Status::Usage

@@ -1,4 +1,4 @@
-use Rattle.std.proofs.Common.{◌∙◌, sym, ap, arith}
+use Rattle.std.proofs.Common.{◌≡◌, ◌<◌, ◌∙◌, sym, ap, length, length-drop, arith}
 use Rattle.station_cmd.specs.Files.{name_from, name_in}
 use Rattle.station_cmd.proofs.Names.{name_behind, plain_name}
 use Rattle.station_cmd.proofs.files.+name_in.Goals as goal
