@@ -6,6 +6,7 @@ import sys
 
 TOP = os.path.dirname(os.path.dirname(os.path.realpath(__file__)))
 ROWS = os.path.join(TOP, "examples", "rows")
+STATION = os.path.join(TOP, "examples", "station")
 STREAMS = "node", "ip", "frames"
 FEND = b"\xC0"
 
@@ -48,7 +49,7 @@ class Row:
     def __init__(self, place, words):
         self.place, self.words = place, words
         self.input, self.output, self.among, self.notes, self.status = b"", b"", [], None, 0
-        self.is_whole = False
+        self.is_whole, self.folder = False, None
 
     def add(self, mark, text):
         self.is_whole = True
@@ -59,6 +60,9 @@ class Row:
             self.input += kiss(octets(text)) if is_stream else bytes_of(text) + b"\n"
         elif mark == ">":
             self.output += kiss(octets(text)) if is_stream and self.words[0] != "frames" else text.encode() + b"\n"
+        elif mark == "@":
+            port, _, frame = text.partition(" ")
+            self.input += f"!heard {port} {octets(frame).hex().upper()}\n".encode()
         elif mark == "~":
             self.among.append(text.encode())
         elif mark == "!":
@@ -68,7 +72,7 @@ class Row:
 
     def fault(self, program):
         """What is wrong with a run, if anything is."""
-        ran = subprocess.run([*program, *self.words], input=self.input, capture_output=True)
+        ran = subprocess.run([*program, *self.words], input=self.input, capture_output=True, cwd=self.folder)
         if ran.returncode != self.status:
             return f"status {ran.returncode}"
         if self.notes not in (None, ran.stderr):
@@ -84,10 +88,10 @@ class Row:
 USAGE = open(os.path.join(TOP, "examples", "no-words.notes"), "rb").read()
 
 
-def rows_of(name):
+def rows_of(name, folder=ROWS):
     """The rows of a file."""
     rows, words = [], []
-    with open(os.path.join(ROWS, name), encoding="utf-8") as lines:
+    with open(os.path.join(folder, name), encoding="utf-8") as lines:
         for number, line in enumerate(lines, 1):
             mark, _, text = line.rstrip("\n").partition(" ")
             place = f"{name}:{number}"
@@ -110,7 +114,7 @@ def rows_of(name):
             elif mark == "+":
                 rows.append(Row(place, text.split(" ")))
                 rows[-1].is_whole = True
-            elif mark in ("<<", "<", ">", "~", "!", "="):
+            elif mark in ("<<", "<", "@", ">", "~", "!", "="):
                 rows[-1].add(mark, text)
             else:
                 sys.exit(f"{place}: no row begins so")
