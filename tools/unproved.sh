@@ -18,7 +18,7 @@ read_input() {
         say "run needs the built program: $build makes it"
         return 1
         ;;
-    replay | frames | life | listen | trace) ;;
+    replay | frames | life | listen | trace | try) ;;
     *) return 0 ;;
     esac
     cat >"$room/input" || { say "standard input can't be read"; return 1; }
@@ -33,12 +33,20 @@ run_unproved() {
     trap 'exit 1' HUP INT TERM
     : >"$room/input"
     read_input "$@" || exit 1
-    # (`rt try` runs in a folder of its own, so a file that is read has to be named to it)
-    if [ "$1 $#" = "check 2" ] && [ -f "$2" ]; then
-        set -- --data "$(basename "$2")=$(readlink -f "$2")" -- check "$(basename "$2")"
-    else
-        set -- -- "$@"
-    fi
+    # (`rt try` runs in a folder of its own, so the files that are read have to be given to it)
+    mkdir "$room/files" || exit 1
+    for word; do
+        shift
+        if [ -f "$word" ]; then
+            given=$room/files/$(basename "$word")
+            [ ! -e "$given" ] || cmp -s "$word" "$given" || { say "two files of one name need the built program: $build makes it"; exit 1; }
+            cp "$word" "$given" || exit 1
+            word=$(basename "$word")
+        fi
+        set -- "$@" "$word"
+    done
+    set -- -- "$@"
+    for given in "$room/files"/*; do [ ! -e "$given" ] || set -- --data "$(basename "$given")=$given" "$@"; done
     # (beside the shell, which would else heed no signal before it ends)
     (cd "$top/crates/$crate" && exec rt try "$@") <"$room/input" >"$room/output" 2>"$room/notes" &
     run=$!
